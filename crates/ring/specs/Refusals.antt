@@ -1,0 +1,58 @@
+-- The number of each refusal in document 01, and the values that it carries.
+use Prim.Native.Nat.{ℕ}
+use Rattle.ring.specs.declared.refusals.Refusal.{Refusal}
+use Rattle.ring.specs.declared.refusals.Refusal.the-variants.{NodeCount, ColourCount, RequestCount, RequestEnd, RequestEndsEqual, TableShort, FateNumber, Conflict, CircuitEnd, CircuitEndsEqual, WayNumber, ColourNumber, ColourHeld, BookFull, SerialsUsedUp, SerialNeverGiven, SerialRemoved, LinkNumber, BufferShort, StoredLength, BlockCheck, StoredForm, TextForm}
+use Rattle.ring.specs.declared.refusals.Carried.{Carried}
+use Rattle.ring.specs.declared.refusals.Carried.the-variants.{None, One, Two}
+
+-- the paper's number of each ground; 4 and 5 stand for a request of a list, and for a grant
+abbrev pub numberOf : Refusal → ℕ
+numberOf NodeCount = 1
+numberOf ColourCount = 2
+numberOf RequestCount = 3
+numberOf (RequestEnd i) = 4
+numberOf (RequestEndsEqual i) = 5
+numberOf TableShort = 6
+numberOf (FateNumber i) = 7
+numberOf (Conflict i j) = 8
+numberOf CircuitEnd = 4
+numberOf CircuitEndsEqual = 5
+numberOf WayNumber = 9
+numberOf ColourNumber = 10
+numberOf ColourHeld = 11
+numberOf BookFull = 12
+numberOf SerialsUsedUp = 13
+numberOf SerialNeverGiven = 14
+numberOf SerialRemoved = 15
+numberOf LinkNumber = 16
+numberOf BufferShort = 17
+numberOf StoredLength = 18
+numberOf BlockCheck = 19
+numberOf StoredForm = 20
+numberOf TextForm = 21
+
+-- "In plan and check, 4, 5 and 7 carry the request number, 8 both, the others none."
+abbrev pub carriedBy : Refusal → Carried
+carriedBy NodeCount = None
+carriedBy ColourCount = None
+carriedBy RequestCount = None
+carriedBy (RequestEnd i) = One i
+carriedBy (RequestEndsEqual i) = One i
+carriedBy TableShort = None
+carriedBy (FateNumber i) = One i
+carriedBy (Conflict i j) = Two i j
+carriedBy CircuitEnd = None
+carriedBy CircuitEndsEqual = None
+carriedBy WayNumber = None
+carriedBy ColourNumber = None
+carriedBy ColourHeld = None
+carriedBy BookFull = None
+carriedBy SerialsUsedUp = None
+carriedBy SerialNeverGiven = None
+carriedBy SerialRemoved = None
+carriedBy LinkNumber = None
+carriedBy BufferShort = None
+carriedBy StoredLength = None
+carriedBy BlockCheck = None
+carriedBy StoredForm = None
+carriedBy TextForm = None

@@ -1,0 +1,125 @@
+// The geometry of ways round the ring and of chords across it.
+use super::requests::Request;
+ghost use mathlib.Core.Path.{_≡_};
+ghost use mathlib.Core.Bool.{_&&_, _||_};
+ghost use Prim.Native.Nat.{min, max};
+ghost use lib.Dec.{eqb, leb, ltb};
+ghost use Rattle.ring.specs.Ways.{within, uses, sharing};
+ghost use Rattle.ring.specs.Chords.{inside, shareEnd, crosses, compatible};
+
+// The two ways of a request {a, b}: links a to b - 1, or all the others.
+pub enum Way {
+    Plain,
+    Seam,
+}
+
+fn between(a: u16, b: u16, link: u16) -> bool
+    ensures { λ r. ⌜ r ≡ within a b link ⌝ }
+{
+    a <= link && link < b
+}
+
+// Whether the way of a request uses a link.
+pub fn uses(way: Way, request: Request, link: u16) -> bool
+    ensures { λ r. ⌜ r ≡ uses way request link ⌝ }
+{
+    match way {
+        Way::Plain => between(request.a, request.b, link),
+        Way::Seam => !between(request.a, request.b, link),
+    }
+}
+
+// Whether the first interval lies within the second.
+fn contained(r: Request, s: Request) -> bool
+    ensures { λ t. ⌜ t ≡ (leb (s .a) (r .a) && leb (r .b) (s .b)) ⌝ }
+{
+    s.a <= r.a && r.b <= s.b
+}
+
+// The smaller of two numbers.
+pub fn smaller(x: u16, y: u16) -> u16
+    ensures { λ r. ⌜ r ≡ min x y ⌝ }
+{
+    if x <= y { x } else { y }
+}
+
+// The larger of two numbers.
+pub fn larger(x: u16, y: u16) -> u16
+    ensures { λ r. ⌜ r ≡ max x y ⌝ }
+{
+    if x <= y { y } else { x }
+}
+
+// Whether the two intervals overlap.
+fn overlapping(r: Request, s: Request) -> bool
+    ensures { λ t. ⌜ t ≡ ltb (max (r .a) (s .a)) (min (r .b) (s .b)) ⌝ }
+{
+    larger(r.a, s.a) < smaller(r.b, s.b)
+}
+
+// Whether the plain way of r shares a link with a way of s.
+fn plain_shares(r: Request, second: Way, s: Request) -> bool
+    ensures { λ t. ⌜ t ≡ sharing Way.Plain r second s ⌝ }
+{
+    match second {
+        Way::Plain => overlapping(r, s),
+        Way::Seam => !contained(r, s),
+    }
+}
+
+// Whether the seam way of r shares a link with a way of s.
+fn seam_shares(r: Request, second: Way, s: Request) -> bool
+    ensures { λ t. ⌜ t ≡ sharing Way.Seam r second s ⌝ }
+{
+    match second {
+        Way::Plain => !contained(s, r),
+        Way::Seam => true,
+    }
+}
+
+// Whether the ways of two requests share a link, by comparing ends.
+pub fn ways_share(first: Way, r: Request, second: Way, s: Request) -> bool
+    ensures { λ t. ⌜ t ≡ sharing first r second s ⌝ }
+{
+    match first {
+        Way::Plain => plain_shares(r, second, s),
+        Way::Seam => seam_shares(r, second, s),
+    }
+}
+
+// Whether a node lies strictly between the ends of a request.
+pub fn lies_inside(r: Request, x: u16) -> bool
+    ensures { λ t. ⌜ t ≡ inside r x ⌝ }
+{
+    r.a < x && x < r.b
+}
+
+// Whether a node is an end of a request.
+fn is_end(x: u16, s: Request) -> bool
+    ensures { λ t. ⌜ t ≡ (eqb x (s .a) || eqb x (s .b)) ⌝ }
+{
+    x == s.a || x == s.b
+}
+
+fn share_end(r: Request, s: Request) -> bool
+    ensures { λ t. ⌜ t ≡ shareEnd r s ⌝ }
+{
+    is_end(r.a, s) || is_end(r.b, s)
+}
+
+// Whether the chords of two requests cross.
+pub fn crossing(r: Request, s: Request) -> bool
+    ensures { λ t. ⌜ t ≡ crosses r s ⌝ }
+{
+    if share_end(r, s) {
+        return false;
+    }
+    lies_inside(r, s.a) != lies_inside(r, s.b)
+}
+
+// Whether they do not.
+pub fn compatible(r: Request, s: Request) -> bool
+    ensures { λ t. ⌜ t ≡ compatible r s ⌝ }
+{
+    !crossing(r, s)
+}
