@@ -1,0 +1,17 @@
+pub mod Rows
+pub mod Labels
+pub mod State
+pub mod Grow
+pub mod Tree
+pub mod Absorb
+pub mod Blossom
+pub mod Cycle
+pub mod Start
+pub mod Scan
+pub mod Scanning
+pub mod Certificate
+pub mod Search
+pub mod Augment
+pub mod Freeze
+pub mod Duality
+pub mod Maximum

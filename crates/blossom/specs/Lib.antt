@@ -1,0 +1,1 @@
+-- The theory stands in proofs/.

@@ -1,0 +1,31 @@
+-- Circuits, and the colours that they hold on links.
+use Prim.Native.Nat.{ℕ}
+use mathlib.Core.Bool.{Bool, false, _&&_, _||_}
+use mathlib.Core.List.{List, [], _∷_}
+use lib.Dec.{eqb}
+use lib.ListN.{getD}
+use Rattle.ring.specs.declared.requests.Request.{Request}
+use Rattle.ring.specs.declared.ways.Way.the-variants.{Plain}
+use Rattle.ring.specs.Ways.{uses}
+use Rattle.book.specs.declared.circuits.Circuit.{Circuit}
+
+-- the record of a place that holds no circuit
+abbrev pub vacant : Circuit
+vacant = record { serial = 0; a = 0; b = 0; way = Plain; colour = 0 }
+
+-- circuit i of a list; a number past the list has no meaning, and gets the vacant record
+abbrev pub circuit : List Circuit → ℕ → Circuit
+circuit cs i = getD cs i vacant
+
+-- some circuit of a list has the property
+unfoldable pub someCircuit : List Circuit → (Circuit → Bool) → Bool
+someCircuit [] p = false
+someCircuit (c ∷ cs) p = p c || someCircuit cs p
+
+-- the two ends of a circuit
+abbrev pub endsOf : Circuit → Request
+endsOf c = record { a = c .a; b = c .b }
+
+-- the circuit is of that colour, and its way uses the link
+unfoldable pub holds : Circuit → ℕ → ℕ → Bool
+holds c link colour = eqb (c .colour) colour && uses (c .way) (endsOf c) link

@@ -1,0 +1,71 @@
+-- Granting a circuit.
+use Prim.Native.Nat.{ℕ, _+_}
+use mathlib.Core.Bool.{Bool, cond, _&&_, _||_}
+use mathlib.Core.List.{List}
+use lib.Dec.{eqb, leb, ltb}
+use lib.ListN.{set}
+use Rattle.ring.specs.declared.requests.Request.{Request}
+use Rattle.ring.specs.declared.ways.Way.{Way}
+use Rattle.ring.specs.declared.ways.Way.the-variants.{Plain, Seam}
+use Rattle.ring.specs.declared.refusals.Refusal.the-variants.{CircuitEnd, CircuitEndsEqual, WayNumber, ColourNumber, ColourHeld, BookFull, SerialsUsedUp}
+use Rattle.ring.specs.declared.refusals.Verdict.{Verdict}
+use Rattle.ring.specs.declared.refusals.Verdict.the-variants as verdict
+use Rattle.ring.specs.Requests.{requestOf}
+use Rattle.ring.specs.Ways.{uses, someLink}
+use Rattle.ring.specs.Admission.{refuseIf, orElse}
+use Rattle.book.specs.declared.circuits.Circuit.{Circuit}
+use Rattle.book.specs.declared.books.Book.{Book}
+use Rattle.book.specs.declared.grants.GrantAnswer.the-variants as answer
+use Rattle.book.specs.declared.grants.Granted.{Granted}
+use Rattle.book.specs.Circuits.{someCircuit, holds}
+use Rattle.book.specs.Books.{liveOf}
+
+-- "way not 0 (plain) or 1 (seam)"
+abbrev pub wayOf : ℕ → Way
+wayOf way = cond (eqb way 0) Plain Seam
+
+-- the circuit of a grant; its "order of ends has no meaning", the smaller is a
+abbrev pub circuitOf : ℕ → ℕ → ℕ → ℕ → ℕ → Circuit
+circuitOf serial x y way colour = record { serial = serial; a = requestOf x y .a; b = requestOf x y .b; way = wayOf way; colour = colour }
+
+-- some circuit holds the colour on the link
+unfoldable pub heldIn : List Circuit → ℕ → ℕ → Bool
+heldIn cs link colour = someCircuit cs (λ c. holds c link colour)
+
+-- "that colour is held on a link of the way"
+unfoldable pub colourHeld : Book → Way → Request → ℕ → Bool
+colourHeld b way r colour = someLink (b .n) (λ link. uses way r link && heldIn (liveOf b) link colour)
+
+-- "4, 5, 9 way not 0 (plain) or 1 (seam), 10 colour w or more": the grounds that lie in the arguments alone
+unfoldable pub argumentVerdict : ℕ → ℕ → ℕ → ℕ → ℕ → ℕ → Verdict
+argumentVerdict n w x y way colour =
+    orElse (refuseIf (leb n x || leb n y) CircuitEnd)
+    (orElse (refuseIf (eqb x y) CircuitEndsEqual)
+    (orElse (refuseIf (ltb 1 way) WayNumber)
+    (refuseIf (leb w colour) ColourNumber)))
+
+-- "12 512 live, 13 serial 65,535 has been given"
+unfoldable pub roomVerdict : ℕ → ℕ → Verdict
+roomVerdict live grants =
+    orElse (refuseIf (leb 512 live) BookFull)
+    (refuseIf (leb 65535 grants) SerialsUsedUp)
+
+-- "4, 5, 9, 10, 11 that colour is held on a link of the way, 12, 13", "tested in the order written"
+unfoldable pub grantVerdict : Book → ℕ → ℕ → ℕ → ℕ → Verdict
+grantVerdict b x y way colour =
+    orElse (argumentVerdict (b .n) (b .w) x y way colour)
+    (orElse (refuseIf (colourHeld b (wayOf way) (requestOf x y) colour) ColourHeld)
+    (roomVerdict (b .live) (b .grants)))
+
+-- the book with one circuit more, behind the live ones, and one grant more
+abbrev pub withCircuit : Book → Circuit → Book
+withCircuit b c = record { n = b .n; w = b .w; grants = b .grants + 1; live = b .live + 1; places = set (b .places) (b .live) c }
+
+-- the grant of a circuit; a refused grant "changes nothing"
+abbrev pub grantUnless : Verdict → Book → Circuit → Granted
+grantUnless verdict.Allowed b c = record { answer = answer.Granted (c .serial); book = withCircuit b c }
+grantUnless (verdict.Refused r) b c = record { answer = answer.Refused r; book = b }
+
+-- "Grant. .. Success gives the serial": one more than the grants so far
+unfoldable pub granted : Book → ℕ → ℕ → ℕ → ℕ → Granted
+granted b x y way colour = grantUnless (grantVerdict b x y way colour) b (circuitOf (b .grants + 1) x y way colour)

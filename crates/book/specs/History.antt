@@ -1,0 +1,142 @@
+-- What every history of calls from open comes to, said of the calls and their answers.
+use Prim.Native.Nat.{ℕ, zero, suc, _+_, _<_}
+use mathlib.Core.Path.{_≡_}
+use mathlib.Core.Bool.{Bool, true, false}
+use mathlib.Core.List.{List, [], _∷_}
+use mathlib.Core.Logic.{_⊎_, _↔_}
+use lib.Dec.{eqb}
+use lib.ListN.{length}
+use Rattle.ring.specs.declared.refusals.Verdict.the-variants as verdict
+use Rattle.ring.specs.Admission.{ringVerdict}
+use Rattle.ring.specs.Matchings.{NoTwice}
+use Rattle.ring.specs.Ways.{uses}
+use Rattle.book.specs.declared.circuits.Circuit.{Circuit}
+use Rattle.book.specs.declared.books.Book.{Book}
+use Rattle.book.specs.declared.grants.GrantAnswer.{GrantAnswer}
+use Rattle.book.specs.declared.grants.GrantAnswer.the-variants as grant
+use Rattle.book.specs.declared.removals.RemoveAnswer.{RemoveAnswer}
+use Rattle.book.specs.declared.removals.RemoveAnswer.the-variants as remove
+use Rattle.book.specs.declared.orders.ShowAnswer.{ShowAnswer}
+use Rattle.book.specs.declared.orders.ShowAnswer.the-variants as show
+use Rattle.book.specs.declared.holders.HolderAnswer.{HolderAnswer}
+use Rattle.book.specs.declared.holders.HolderAnswer.the-variants as holder
+use Rattle.book.specs.Circuits.{endsOf, holds}
+use Rattle.book.specs.Books.{Valid, opened}
+use Rattle.book.specs.Grants.{circuitOf, granted}
+use Rattle.book.specs.Orders.{shown}
+use Rattle.book.specs.Removals.{removed}
+use Rattle.book.specs.Holders.{heldBy}
+
+-- open gives a valid book, and grant and remove keep it so; the questions give no book
+pub record KeepsValid : Type 0 where
+  pub opening : (n w : ℕ) → ringVerdict n w ≡ verdict.Allowed → Valid (opened n w .book)
+  pub granting : (b : Book) → Valid b → (x y way colour : ℕ) → Valid (granted b x y way colour .book)
+  pub removing : (b : Book) → Valid b → (serial : ℕ) → Valid (removed b serial .book)
+
+-- a call on a book, with any arguments
+pub data Call : Type 0 where
+  Grant : (x y way colour : ℕ) → Call
+  Remove : (serial : ℕ) → Call
+  Show : (serial : ℕ) → Call
+  Holder : (link colour : ℕ) → Call
+
+-- a call with its answer
+pub data Event : Type 0 where
+  GrantAnswered : (x y way colour : ℕ) → GrantAnswer → Event
+  RemoveAnswered : (serial : ℕ) → RemoveAnswer → Event
+  ShowAnswered : (serial : ℕ) → ShowAnswer → Event
+  HolderAnswered : (link colour : ℕ) → HolderAnswer → Event
+
+-- the answer of a call on a book
+abbrev pub event : Book → Call → Event
+event b (Grant x y way colour) = GrantAnswered x y way colour (granted b x y way colour .answer)
+event b (Remove serial) = RemoveAnswered serial (removed b serial .answer)
+event b (Show serial) = ShowAnswered serial (shown b serial)
+event b (Holder link colour) = HolderAnswered link colour (heldBy b link colour)
+
+-- the book after a call; questions change nothing
+abbrev pub after : Book → Call → Book
+after b (Grant x y way colour) = granted b x y way colour .book
+after b (Remove serial) = removed b serial .book
+after b (Show serial) = b
+after b (Holder link colour) = b
+
+-- the book after a list of calls, the latest of them first
+abbrev pub run : Book → List Call → Book
+run b [] = b
+run b (call ∷ calls) = after (run b calls) call
+
+-- the calls with their answers, the latest first
+abbrev pub history : Book → List Call → List Event
+history b [] = []
+history b (call ∷ calls) = event (run b calls) call ∷ history b calls
+
+-- an accepted grant gave this serial to this circuit
+abbrev pub Gives : Event → ℕ → Circuit → Type 0
+Gives (GrantAnswered x y way colour (grant.Granted given)) serial c = (given ≡ serial) × (circuitOf given x y way colour ≡ c)
+Gives (GrantAnswered x y way colour (grant.Refused r)) serial c = ⊥
+Gives (RemoveAnswered s a) serial c = ⊥
+Gives (ShowAnswered s a) serial c = ⊥
+Gives (HolderAnswered l k a) serial c = ⊥
+
+-- an accepted removal named this serial
+abbrev pub takes : Event → ℕ → Bool
+takes (RemoveAnswered named remove.Removed) serial = eqb named serial
+takes (RemoveAnswered named (remove.Refused r)) serial = false
+takes (GrantAnswered x y way colour a) serial = false
+takes (ShowAnswered s a) serial = false
+takes (HolderAnswered l k a) serial = false
+
+-- some accepted grant of the history gave this serial to this circuit, and no later accepted removal named it
+abbrev pub Live : List Event → ℕ → Circuit → Type 0
+Live [] serial c = ⊥
+Live (latest ∷ earlier) serial c = Gives latest serial c ⊎ ((takes latest serial ≡ false) × Live earlier serial c)
+
+-- the serials that the accepted grants gave, the latest first
+abbrev pub given : List Event → List ℕ
+given [] = []
+given (GrantAnswered x y way colour (grant.Granted serial) ∷ h) = serial ∷ given h
+given (GrantAnswered x y way colour (grant.Refused r) ∷ h) = given h
+given (RemoveAnswered s a ∷ h) = given h
+given (ShowAnswered s a ∷ h) = given h
+given (HolderAnswered l k a ∷ h) = given h
+
+-- the number of accepted removals
+abbrev pub removals : List Event → ℕ
+removals [] = 0
+removals (RemoveAnswered s remove.Removed ∷ h) = suc (removals h)
+removals (RemoveAnswered s (remove.Refused r) ∷ h) = removals h
+removals (GrantAnswered x y way colour a ∷ h) = removals h
+removals (ShowAnswered s a ∷ h) = removals h
+removals (HolderAnswered l k a ∷ h) = removals h
+
+-- k, and on down to 1
+abbrev pub downFrom : ℕ → List ℕ
+downFrom zero = []
+downFrom (suc k) = suc k ∷ downFrom k
+
+-- a live circuit's way uses the link in that colour, and its order has this serial
+pub record Holding (h : List Event) (link colour serial : ℕ) : Type 0 where
+  pub order : Circuit
+  pub live : Live h serial order
+  pub holding : holds order link colour ≡ true
+
+-- what is so of a book b after a history h of calls from the opening of a book with n nodes and w colours
+pub record AfterHistory (n w : ℕ) (h : List Event) (b : Book) : Type 0 where
+  pub valid : Valid b
+  -- show gives a circuit exactly if an accepted grant gave it this serial and no later accepted removal named it
+  pub shows : (serial : ℕ) (c : Circuit) → ((shown b serial ≡ show.Shown c) ↔ Live h serial c)
+  -- a colour on a link is held exactly if a live circuit's way uses the link in that colour, and the holder is that circuit's order
+  pub held : (link colour : ℕ) → link < n → colour < w → (serial : ℕ) → ((heldBy b link colour ≡ holder.Held serial) ↔ Holding h link colour serial)
+  pub free : (link colour : ℕ) → link < n → colour < w → ((heldBy b link colour ≡ holder.Free) ↔ ((serial : ℕ) → Holding h link colour serial → ⊥))
+  -- a removal frees every link of the circuit's way; of a seam way those below a, from link 0 on, as well as those from b to n - 1
+  pub frees : (serial : ℕ) (c : Circuit) → Live h serial c → (link : ℕ) → link < n → uses (c .way) (endsOf c) link ≡ true → heldBy (removed b serial .book) link (c .colour) ≡ holder.Free
+  -- "The live count is the accepted grants less the accepted removals."
+  pub count : b .live + removals h ≡ length (given h)
+  -- "Serials rise from 1 and are never given twice."
+  pub serials : given h ≡ downFrom (length (given h))
+  pub once : NoTwice (given h)
+
+-- demand 2 of the book: it is so after every list of calls from open
+abbrev pub EveryHistory : Type 0
+EveryHistory = (n w : ℕ) → ringVerdict n w ≡ verdict.Allowed → (calls : List Call) → AfterHistory n w (history (opened n w .book) calls) (run (opened n w .book) calls)

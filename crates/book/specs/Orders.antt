@@ -1,0 +1,40 @@
+-- Looking an order up and showing it.
+use Prim.Native.Nat.{ℕ, _+_}
+use mathlib.Core.Bool.{Bool, cond, _||_}
+use mathlib.Core.List.{List, [], _∷_}
+use lib.Dec.{eqb, ltb}
+use Rattle.ring.specs.declared.refusals.Refusal.{Refusal}
+use Rattle.ring.specs.declared.refusals.Refusal.the-variants.{SerialNeverGiven, SerialRemoved}
+use Rattle.book.specs.declared.circuits.Circuit.{Circuit}
+use Rattle.book.specs.declared.books.Book.{Book}
+use Rattle.book.specs.declared.orders.Lookup.{Lookup}
+use Rattle.book.specs.declared.orders.Lookup.the-variants.{Found, Missing}
+use Rattle.book.specs.declared.orders.ShowAnswer.{ShowAnswer}
+use Rattle.book.specs.declared.orders.ShowAnswer.the-variants.{Shown, Refused}
+use Rattle.book.specs.Books.{liveOf}
+
+-- "serial 0 or never given", after so many grants
+unfoldable pub neverGiven : ℕ → ℕ → Bool
+neverGiven grants serial = eqb serial 0 || ltb grants serial
+
+-- the first circuit of that serial, with its place counted from i
+unfoldable pub lookupIn : ℕ → List Circuit → ℕ → Lookup
+lookupIn i [] serial = Missing
+lookupIn i (c ∷ cs) serial = cond (eqb (c .serial) serial) (Found i c) (lookupIn (i + 1) cs serial)
+
+-- the order of a serial, if it is live
+unfoldable pub lookup : Book → ℕ → Lookup
+lookup b serial = cond (neverGiven (b .grants) serial) Missing (lookupIn 0 (liveOf b) serial)
+
+-- "14 serial 0 or never given, 15 removed", of a serial that is not live
+unfoldable pub missing : Book → ℕ → Refusal
+missing b serial = cond (neverGiven (b .grants) serial) SerialNeverGiven SerialRemoved
+
+-- the record that was found, or a refusal
+abbrev pub showFound : Lookup → Refusal → ShowAnswer
+showFound (Found i c) r = Shown c
+showFound Missing r = Refused r
+
+-- "Show gives a, b, way and colour."
+unfoldable pub shown : Book → ℕ → ShowAnswer
+shown b serial = showFound (lookup b serial) (missing b serial)

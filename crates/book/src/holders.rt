@@ -1,0 +1,60 @@
+// The holder of a colour on a link.
+use super::books::Book;
+use super::books::live_count;
+use super::circuits::Circuit;
+use super::circuits::holds;
+use ring::Refusal;
+ghost use mathlib.Core.Path.{_≡_};
+ghost use Prim.Native.Nat.{_≤_};
+ghost use lib.ListN.{take};
+ghost use Rattle.book.specs.Holders.{holderPlace, heldBy};
+
+pub enum HolderAnswer {
+    Free,
+    Held(u16),
+    Refused(Refusal),
+}
+
+// The place of the first circuit that holds the colour on the link, or the number of circuits.
+fn holder_place(circuits: &[Circuit], link: u16, colour: u16) -> usize
+    ensures { λ r. ⌜ r ≡ holderPlace 0 (now (circuits .entry)) link colour ⌝ }
+{
+    let mut i: usize = 0;
+    while i < circuits.len() {
+        let circuit = circuits[i];
+        if holds(circuit, link, colour) {
+            return i;
+        }
+        i += 1;
+    }
+    i
+}
+
+// The same of the live circuits, which are lent from the places.
+fn holder_search(places: [Circuit; 512], live: usize, link: u16, colour: u16) -> usize
+    requires { ⌜ live ≤ 512 ⌝ }
+    ensures { λ r. ⌜ r ≡ holderPlace 0 (take live places) link colour ⌝ }
+{
+    holder_place(&places[..live], link, colour)
+}
+
+// Who holds a colour on a link, or refusal 16 or 10.
+pub fn holder(book: Book, link: u16, colour: u16) -> HolderAnswer
+    ensures { λ r. ⌜ r ≡ heldBy book link colour ⌝ }
+{
+    if book.n <= link {
+        return HolderAnswer::Refused(Refusal::LinkNumber);
+    }
+    if book.w <= colour {
+        return HolderAnswer::Refused(Refusal::ColourNumber);
+    }
+    let live = live_count(book);
+    let places = book.places;
+    let place = holder_search(places, live, link, colour);
+    if place < live {
+        let circuit = book.places[place];
+        HolderAnswer::Held(circuit.serial)
+    } else {
+        HolderAnswer::Free
+    }
+}

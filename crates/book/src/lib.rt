@@ -1,0 +1,15 @@
+// The ring book: which circuits are live, by which ways, in which colours, under which serials.
+pub mod books;
+pub mod circuits;
+pub mod grants;
+pub mod holders;
+pub mod orders;
+pub mod removals;
+
+pub use books::Book;
+pub use books::open;
+pub use circuits::Circuit;
+pub use grants::grant;
+pub use holders::holder;
+pub use orders::show;
+pub use removals::remove;

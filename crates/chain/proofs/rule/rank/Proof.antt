@@ -1,0 +1,17 @@
+-- The test says which case of the definition it is. Assumes nothing.
+use borrow.Author.Needs.{needs}
+use borrow.Author.Tests.{le-leb, lt-leb}
+use Rattle.chain.proofs.rule.rank.Statement.{statement}
+use Rattle.chain.proofs.rule.rank.Tie as tie
+
+add-result : tie.Need-add-result
+add-result c = search needs
+
+returns : tie.Need-returns
+returns c = simp (le-leb _ _ (c .if1 .taken))
+
+returns-2 : tie.Need-returns-2
+returns-2 c = simp (lt-leb _ _ (c .if1 .left))
+
+pub rank-spec : {M : Type 1} → statement M
+rank-spec = tie.close (tie.spec add-result returns returns-2)

@@ -1,0 +1,32 @@
+-- What the loop over the roots needs: rows to start with, and the test that a search is due.
+use Prim.Native.Nat.{ℕ, _<_, _≤_}
+use mathlib.Core.Path.{_≡_, ap, _∙_}
+use mathlib.Core.Bool.{true, false, _&&_}
+use mathlib.Core.List.{List, []}
+use lib.Dec.{eqb, ltb}
+use lib.ListN.{length, replicate, length-replicate, getD-replicate}
+use borrow.Author.Tests.{eqb-true, ltb-true, eq-eqb, ne-eqb}
+use Rattle.ring.proofs.Cases.{yes, no, is, less, not-less, compare, impossible}
+use Rattle.matching.specs.Search.{Square}
+
+pub square-blank : (row : List ℕ) → length row ≡ 512 → Square (replicate 512 row)
+square-blank row e = record {
+  many = length-replicate 512 row;
+  wide = λ i h. ap length (getD-replicate 512 i row [] h) ∙ e;
+}
+
+pub open-exposed : (a r n : ℕ) → (eqb a r && ltb n 3) ≡ true → a ≡ r
+open-exposed a r n e = elim (is (eqb a r)) [ yes f ↦ eqb-true a r f | no f ↦ impossible (cc) ]
+
+pub open-free : (a r n : ℕ) → (eqb a r && ltb n 3) ≡ true → n < 3
+open-free a r n e = elim (is (eqb a r)) [ yes f ↦ ltb-true n 3 (cc) | no f ↦ impossible (cc) ]
+
+pub open-not : (a r n : ℕ) → (eqb a r && ltb n 3) ≡ false → a ≡ r → 3 ≤ n
+open-not a r n e f = elim (compare n 3) [ less h i ↦ impossible (cc (eq-eqb a r f)) | not-less h i ↦ h ]
+
+-- the ways through the test
+pub open-covered : (a r n b : ℕ) → b ≡ a → (b ≡ r → ⊥) → false ≡ (eqb a r && ltb n 3)
+open-covered a r n b e d = cc (ne-eqb b r d)
+
+pub open-test : (a r n b : ℕ) → b ≡ a → b ≡ r → ltb n 3 ≡ (eqb a r && ltb n 3)
+open-test a r n b e f = cc (eq-eqb b r f)

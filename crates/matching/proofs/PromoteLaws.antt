@@ -1,0 +1,156 @@
+-- One turn of the loops of a blossom: over the new bases, and over the vertices that become even.
+use Prim.Native.Nat.{ℕ, zero, suc, _+_, _<_, _≤_}
+use mathlib.Core.Path.{_≡_, refl, _∙_}
+use mathlib.Core.Bool.{Bool, true, false, not, _&&_, _||_}
+use mathlib.Core.List.{List}
+use native.Mathlib.Numerals.{add-one}
+use native.Mathlib.Omega.{arith}
+use lib.Dec.{eqb}
+use lib.ListN.{length, getD, set, length-set}
+use lib.Seq.{getD-set-same, getD-set-other}
+use borrow.Author.Tests.{eqb-false, ne-eqb, lt-ltb, le-ltb}
+use Rattle.ring.proofs.Cases.{yes, no, is, same, different, test, less, not-less, compare}
+use Rattle.ring.proofs.Counting.{sum, count, bit}
+use Rattle.matching.specs.declared.matchings.Matching.{Matching}
+use Rattle.matching.specs.Steps.{onCycle, joinsBlossom, newBase, promotedArrays, Promoted}
+use Rattle.matching.proofs.ModelLaws.{among-add}
+
+-- the test that a vertex comes to the blossom, by the ways through the code
+module _ (labels mates bases sides : List ℕ) (z : ℕ) where
+  pub joins-side : (getD sides z 0 ≡ 0 → ⊥) → true ≡ joinsBlossom labels mates bases sides z
+  unfolding joinsBlossom
+  joins-side n = cc (ne-eqb (getD sides z 0) 0 n)
+
+  pub joins-not : getD sides z 0 ≡ 0 → (getD labels z 0 ≡ 1 → ⊥) → false ≡ joinsBlossom labels mates bases sides z
+  unfolding joinsBlossom
+  joins-not e n = cc (ne-eqb (getD labels z 0) 1 n)
+
+  pub joins-base : getD sides z 0 ≡ 0 → getD labels z 0 ≡ 1 → (b e : ℕ) → b ≡ getD bases z 0 → e ≡ getD mates b 0
+      → not (eqb (getD sides e 0) 0) ≡ joinsBlossom labels mates bases sides z
+  unfolding joinsBlossom
+  joins-base f g b e i j = cc
+
+-- the bases below n are new
+pub record Rebased (labels mates bases sides : List ℕ) (b n : ℕ) (after : List ℕ) : Type 0 where
+  pub new : (z : ℕ) → z < n → getD after z 0 ≡ newBase labels mates bases sides b z
+  pub old : (z : ℕ) → n ≤ z → getD after z 0 ≡ getD bases z 0
+
+module _ (labels mates bases sides : List ℕ) (b n : ℕ) (after : List ℕ) (H : Rebased labels mates bases sides b n after) where
+  pub rebase-joins : n < length after → joinsBlossom labels mates bases sides n ≡ true → Rebased labels mates bases sides b (n + 1) (set after n b)
+  unfolding newBase
+  rebase-joins h j = record {
+    new = λ z l. elim (test z n) [
+      | same e f ↦ cc (getD-set-same after n b 0 h)
+      | different e ↦ getD-set-other after n z b 0 (eqb-false z n (e .left)) ∙ H .new z (omega (arith, eqb-false z n (e .left)))
+    ];
+    old = λ z l. getD-set-other after n z b 0 (λ e. omega arith) ∙ H .old z (omega arith);
+  }
+
+  pub rebase-stays : joinsBlossom labels mates bases sides n ≡ false → Rebased labels mates bases sides b (n + 1) after
+  unfolding newBase
+  rebase-stays j = record {
+    new = λ z l. elim (test z n) [
+      | same e f ↦ cc (H .old n (omega arith))
+      | different e ↦ H .new z (omega (arith, eqb-false z n (e .left)))
+    ];
+    old = λ z l. H .old z (omega arith);
+  }
+
+-- sums over more numbers
+pub sum-more : (f : ℕ → ℕ) (a b : ℕ) → a ≤ b → sum f a ≤ sum f b
+unfolding sum
+sum-more f a zero h = let e : a ≡ 0 = omega arith in rw e (omega arith)
+sum-more f a (suc b) h = elim (test a (suc b)) [
+  | same e g ↦ rw e (omega arith)
+  | different e ↦ omega (arith, sum-more f a b (omega (arith, eqb-false a (suc b) (e .left))))
+]
+
+pub count-next : (p : ℕ → Bool) (n : ℕ) → count p (n + 1) ≡ count p n + bit (p n)
+unfolding sum
+count-next p n = rw add-one refl
+
+-- the cycle below one more vertex
+on-next : (sides : List ℕ) (n z : ℕ) → onCycle (n + 1) sides z ≡ (eqb z n && not (eqb (getD sides n 0) 0) || onCycle n sides z)
+unfolding onCycle
+on-next sides n z = elim (test z n) [
+  | same e f ↦ elim (is (eqb (getD sides n 0) 0)) [
+    | yes g ↦ cc (lt-ltb z (n + 1) (omega arith), le-ltb z n (omega arith))
+    | no g ↦ cc (lt-ltb z (n + 1) (omega arith), le-ltb z n (omega arith))
+  ]
+  | different e ↦ elim (compare z n) [
+    | less h i ↦ cc (lt-ltb z (n + 1) (omega arith))
+    | not-less h i ↦ cc (le-ltb z (n + 1) (omega (arith, eqb-false z n (e .left))))
+  ]
+]
+
+pub promoted-none : (m : ℕ) (sides : List ℕ) (s : Matching) → Promoted m 0 sides s s
+unfolding onCycle sum
+promoted-none m sides s = record {
+  mates = refl;
+  bases = refl;
+  parents = refl;
+  size = refl;
+  done = refl;
+  labels-length = refl;
+  queue-length = refl;
+  label = λ z. cc (le-ltb z 0 (omega arith));
+  clock = omega arith;
+  before = λ i h. refl;
+  queued = λ z. cc (le-ltb z 0 (omega arith));
+}
+
+module _ (m n : ℕ) (sides : List ℕ) (s t : Matching) (P : Promoted m n sides s t) (h : n < m) where
+  pub promoted-skip : getD sides n 0 ≡ 0 → Promoted m (n + 1) sides s t
+  unfolding onCycle
+  promoted-skip e =
+      let same-cycle : (z : ℕ) → onCycle (n + 1) sides z ≡ onCycle n sides z = λ z. unchanged z e in
+      record {
+        mates = P .mates;
+        bases = P .bases;
+        parents = P .parents;
+        size = P .size;
+        done = P .done;
+        labels-length = P .labels-length;
+        queue-length = P .queue-length;
+        label = λ z. cc (P .label z, same-cycle z);
+        clock =
+            let b : bit (onCycle m sides n) ≡ 0 = cc (lt-ltb n m h) in
+            omega (arith, P .clock, count-next (onCycle m sides) n);
+        before = P .before;
+        queued = λ z. cc (P .queued z, same-cycle z);
+      }
+    where
+      unchanged : (z : ℕ) → getD sides n 0 ≡ 0 → onCycle (n + 1) sides z ≡ onCycle n sides z
+      unchanged z e = elim (is (eqb z n)) [ yes f ↦ cc (on-next sides n z) | no f ↦ cc (on-next sides n z) ]
+
+  pub promoted-room : (getD sides n 0 ≡ 0 → ⊥) → s .clock + count (onCycle m sides) m ≤ 512 → t .clock < 512
+  unfolding onCycle
+  promoted-room e room =
+      let b : bit (onCycle m sides n) ≡ 1 = cc (lt-ltb n m h, ne-eqb (getD sides n 0) 0 e) in
+      omega (arith, P .clock, count-next (onCycle m sides) n, sum-more (λ z. bit (onCycle m sides z)) (n + 1) m (omega arith))
+
+  pub promoted-take : (getD sides n 0 ≡ 0 → ⊥) → n < length (t .labels) → t .clock < length (t .queue) → Promoted m (n + 1) sides s (promotedArrays t n)
+  unfolding onCycle
+  promoted-take e hl hq =
+      let f = ne-eqb (getD sides n 0) 0 e in
+      record {
+        mates = P .mates;
+        bases = P .bases;
+        parents = P .parents;
+        size = P .size;
+        done = P .done;
+        labels-length = length-set (t .labels) n 1 ∙ P .labels-length;
+        queue-length = length-set (t .queue) (t .clock) n ∙ P .queue-length;
+        label = λ z. let o = on-next sides n z in elim (test z n) [
+          | same g i ↦ cc (getD-set-same (t .labels) n 1 0 hl)
+          | different g ↦ cc (getD-set-other (t .labels) n z 1 0 (eqb-false z n (g .left)), P .label z)
+        ];
+        clock =
+            let b : bit (onCycle m sides n) ≡ 1 = cc (lt-ltb n m h) in
+            omega (arith, P .clock, count-next (onCycle m sides) n);
+        before = λ i l. getD-set-other (t .queue) (t .clock) i n 0 (λ g. omega (arith, P .clock)) ∙ P .before i l;
+        queued = λ z. let o = on-next sides n z in rw add-one (among-add (t .queue) (t .clock) n z hq ∙ elim (is (eqb z n)) [
+          | yes g ↦ cc
+          | no g ↦ cc (P .queued z)
+        ]);
+      }

@@ -1,0 +1,75 @@
+-- The rows of a blossom, entry by entry, as the arrays have them. All vertices are below m, the number of requests.
+use Prim.Native.Nat.{ℕ, _<_, _≤_}
+use mathlib.Core.Path.{_≡_}
+use mathlib.Core.Bool.{Bool, true, false, cond}
+use mathlib.Core.List.{List, []}
+use lib.Dec.{eqb}
+use lib.ListN.{length, getD}
+use Rattle.blossom.proofs.State.{below-test}
+use Rattle.matching.specs.Model.{labelOf}
+use Rattle.matching.specs.Search.{Square}
+
+abbrev pub cell : List (List ℕ) → ℕ → ℕ → ℕ
+cell rows x z = getD (getD rows x []) z 0
+
+-- whether z is below the odd vertex v of the tree
+unfoldable pub belowIn : List (List ℕ) → List ℕ → List ℕ → ℕ → ℕ → Bool
+belowIn rows labels mates v z =
+    below-test (labelOf (getD labels z 0)) (eqb z v) (eqb (cell rows z v) (getD mates v 0)) (eqb (cell rows (getD mates z 0) v) (getD mates v 0))
+
+-- row p below v and row q elsewhere, with p and q paired and v exposed
+unfoldable pub absorbedEntry : List (List ℕ) → List ℕ → List ℕ → ℕ → ℕ → ℕ → ℕ → ℕ
+absorbedEntry rows labels mates p q v z =
+    cond (eqb z v) v (cond (eqb z p) q (cond (eqb z q) p (cond (belowIn rows labels mates v z) (cell rows p z) (cell rows q z))))
+
+-- on which side of the edge from x to y the cycle has v: 0 on none, 1 above x alone, 2 above y alone; by whether rows x and y agree with the mates at v
+abbrev pub sideBy : Bool → Bool → ℕ
+sideBy true true = 0
+sideBy true false = 2
+sideBy false true = 1
+sideBy false false = 0
+
+unfoldable pub sideOf : List (List ℕ) → List ℕ → List ℕ → ℕ → ℕ → ℕ → ℕ
+sideOf rows labels mates x y v =
+    cond (eqb (getD labels v 0) 2) (sideBy (eqb (cell rows x v) (getD mates v 0)) (eqb (cell rows y v) (getD mates v 0))) 0
+
+-- labels and mates such that an absorbed row reads the rows of even vertices only
+pub record Readable (m : ℕ) (labels mates : List ℕ) (x y : ℕ) : Type 0 where
+  pub few : m ≤ 512
+  pub inside : (z : ℕ) → z < m → getD mates z 0 < m
+  pub mate-even : (z : ℕ) → z < m → getD labels z 0 ≡ 2 → getD labels (getD mates z 0) 0 ≡ 1
+  pub x-inside : x < m
+  pub y-inside : y < m
+  pub x-even : getD labels x 0 ≡ 1
+  pub y-even : getD labels y 0 ≡ 1
+
+-- the rows after every vertex of the cycle has got its own
+pub record Absorbed (m : ℕ) (rows after : List (List ℕ)) (labels mates sides : List ℕ) (x y : ℕ) : Type 0 where
+  pub kept : (v : ℕ) → v < 512 → getD labels v 0 ≡ 1 → getD after v [] ≡ getD rows v []
+  pub first : (v z : ℕ) → v < m → z < m → getD sides v 0 ≡ 1 → cell after v z ≡ absorbedEntry rows labels mates x y v z
+  pub second : (v z : ℕ) → v < m → z < m → getD sides v 0 ≡ 2 → cell after v z ≡ absorbedEntry rows labels mates y x v z
+
+-- what `below` reads: the rows and the mates of vertices below m
+pub record Located (m : ℕ) (rows : List (List ℕ)) (mates : List ℕ) (v z : ℕ) : Type 0 where
+  pub square : Square rows
+  pub few : m ≤ 512
+  pub inside : (k : ℕ) → k < m → getD mates k 0 < m
+  pub v-inside : v < m
+  pub z-inside : z < m
+
+-- row p below v and row q elsewhere
+unfoldable pub mixedEntry : List (List ℕ) → List ℕ → List ℕ → ℕ → ℕ → ℕ → ℕ → ℕ
+mixedEntry rows labels mates p q v z = cond (belowIn rows labels mates v z) (cell rows p z) (cell rows q z)
+
+-- the row that v gets, above p and not above q
+pub record AbsorbedRow (m : ℕ) (rows : List (List ℕ)) (labels mates : List ℕ) (p q v : ℕ) (row : List ℕ) : Type 0 where
+  pub wide : length row ≡ 512
+  pub entries : (z : ℕ) → z < m → getD row z 0 ≡ absorbedEntry rows labels mates p q v z
+
+-- the rows after v, on the given side, has got its own
+pub record AbsorbedVertex (m : ℕ) (rows after : List (List ℕ)) (labels mates : List ℕ) (side x y v : ℕ) : Type 0 where
+  pub square : Square after
+  pub others : (w : ℕ) → (w ≡ v → ⊥) → getD after w [] ≡ getD rows w []
+  pub unmoved : side ≡ 0 → getD after v [] ≡ getD rows v []
+  pub first : side ≡ 1 → (z : ℕ) → z < m → cell after v z ≡ absorbedEntry rows labels mates x y v z
+  pub second : side ≡ 2 → (z : ℕ) → z < m → cell after v z ≡ absorbedEntry rows labels mates y x v z

@@ -1,0 +1,166 @@
+-- The choice between the two parts, and the promise of plan.
+use Prim.Native.Nat.{ℕ, _*_, _≤_, _<_, min}
+use mathlib.Core.Path.{_≡_, refl, sym, ap, _∙_}
+use mathlib.Core.List.{List, _++_, map}
+use native.Mathlib.Omega.{arith}
+use lib.ListN.{length, drop, length-map}
+use lib.Seq.{drop-at, length-front, length-take-le}
+use borrow.Author.Tests.{lt-ltb, le-ltb}
+use Rattle.ring.specs.declared.rings.Ring.{Ring}
+use Rattle.ring.specs.declared.rings.RingAnswer.the-variants as ring
+use Rattle.ring.specs.declared.refusals.Refusal.{Refusal}
+use Rattle.ring.specs.declared.refusals.Verdict.{Verdict}
+use Rattle.ring.specs.declared.refusals.Verdict.the-variants.{Allowed, Refused}
+use Rattle.ring.specs.declared.requests.Request.{Request}
+use Rattle.ring.specs.Requests.{requestsOf, ValidRequests}
+use Rattle.ring.specs.Fates.{fateNumber}
+use Rattle.ring.specs.Plans.{served}
+use Rattle.ring.specs.Matchings.{Pair, IsMaximum}
+use Rattle.ring.specs.Admission.{ringUnless, callVerdict, callAnswer}
+use Rattle.ring.proofs.Cases.{impossible}
+use Rattle.ring.proofs.AdmissionLaws.{CallLimits, made-allowed, call-limits}
+use Rattle.chain.specs.ChainPart.{chainPart}
+use Rattle.chain.specs.Promises.{Colourable, Coloured}
+use Rattle.chain.proofs.ChainOptimal.{chain-is-optimal}
+use Rattle.matching.specs.declared.matchings.Matching.{Matching}
+use Rattle.matching.specs.Maximum.{pairsOf, MaximumMatching}
+use Rattle.planner.specs.declared.answers.Part.the-variants as part
+use Rattle.planner.specs.declared.answers.Summary.{Summary}
+use Rattle.planner.specs.declared.answers.PlanAnswer.the-variants as answer
+use Rattle.planner.specs.PairPart.{ByLower, pairPart}
+use Rattle.planner.specs.Plan.{partUsed, summary}
+use Rattle.planner.specs.Promise.{PlanPromise}
+use Rattle.planner.specs.Writing.{pairTable}
+use Rattle.planner.specs.Choosing.{Choosable, Chosen}
+use Rattle.planner.proofs.MateLaws.{matching-size}
+use Rattle.planner.proofs.PairLaws.{pair-part-serves}
+use Rattle.planner.proofs.PlanLaws.{plan-pair, plan-chain, demand}
+
+module _ (n w : ℕ) (ends mates table : List ℕ) (chain size : ℕ) (choosable : Choosable n w ends mates table chain size) where
+  abbrev R : List Request
+  R = requestsOf ends
+
+  abbrev P : List Pair
+  P = pairsOf (length R) mates
+
+  -- so few pairs that twice their number fits
+  pub few-pairs : size ≤ 256
+  few-pairs = omega (arith, choosable .matched, matching-size R P (choosable .writable .matching), choosable .writable .valid .few)
+
+  pair-count : (matched paired : ℕ) → matched ≡ size → paired ≡ 2 * min matched w → paired ≡ served (pairPart n w R P)
+  pair-count matched paired e f = omega (arith, choosable .matched, pair-part-serves n w R P (choosable .writable .matching))
+
+  -- the pair part serves more, and is written
+  pub pair-chosen : (matched paired : ℕ) (after : List ℕ) → matched ≡ size → paired ≡ 2 * min matched w → chain < paired
+      → after ≡ pairTable n w R mates table
+      → Chosen n w R P table after (record { chain = chain; matched = matched; paired = paired; used = part.Pair })
+  unfolding summary partUsed
+  pair-chosen matched paired after e f h g =
+      let c = choosable .chain in
+      let p = pair-count matched paired e f in
+      let s : matched ≡ length P = omega (arith, choosable .matched) in
+      let more : served (chainPart n w R) < served (pairPart n w R P) = omega arith in
+      record { table = rw (plan-pair n w R P more) g; counts = rw (lt-ltb (served (chainPart n w R)) (served (pairPart n w R P)) more) (cc) }
+
+  -- it does not, and the chain part stays
+  pub chain-chosen : (matched paired : ℕ) → matched ≡ size → paired ≡ 2 * min matched w → paired ≤ chain
+      → Chosen n w R P table table (record { chain = chain; matched = matched; paired = paired; used = part.Chain })
+  unfolding summary partUsed
+  chain-chosen matched paired e f h =
+      let c = choosable .chain in
+      let p = pair-count matched paired e f in
+      let s : matched ≡ length P = omega (arith, choosable .matched) in
+      let less : served (pairPart n w R P) ≤ served (chainPart n w R) = omega arith in
+      record { table = rw (plan-chain n w R P less) (choosable .table); counts = rw (le-ltb (served (chainPart n w R)) (served (pairPart n w R P)) less) (cc) }
+
+-- The first m entries after the chain part is written, and the others.
+
+module _ (n w : ℕ) (R : List Request) (valid : ValidRequests n R) (before middle : List ℕ) (count : ℕ) (coloured : Coloured n w R before middle count) where
+  rest-stays : drop (length R) middle ≡ drop (length R) before
+  rest-stays =
+      rw (coloured .table)
+      (drop-at (map fateNumber (chainPart n w R)) (drop (length R) before) (length R)
+      (length-map (chainPart n w R) fateNumber ∙ chain-is-optimal n w R valid .feasible .each))
+
+  coloured-length : length R ≤ length before → length middle ≡ length before
+  coloured-length room =
+      ap length (coloured .table)
+      ∙ length-front before (map fateNumber (chainPart n w R)) (length R)
+      (length-map (chainPart n w R) fateNumber ∙ (chain-is-optimal n w R valid .feasible .each ∙ sym (length-take-le (length R) before room)))
+
+  pub coloured-stays : middle ≡ map fateNumber (chainPart n w R) ++ drop (length R) middle
+  coloured-stays = rw rest-stays (coloured .table)
+
+  pub chosen-from : (P : List Pair) (after : List ℕ) (counts : Summary) → Chosen n w R P middle after counts → Chosen n w R P before after counts
+  chosen-from P after counts chosen = record { table = rw (← rest-stays) (chosen .table); counts = chosen .counts }
+
+-- what the choice asks, from what the chain part and the matching promise
+pub choosable-if : (n w : ℕ) (ends before middle : List ℕ) (chain : ℕ) (found : Matching) → CallLimits n w ends (length before)
+    → Coloured n w (requestsOf ends) before middle chain → MaximumMatching (requestsOf ends) found
+    → Choosable n w ends (found .mates) middle chain (found .size)
+choosable-if n w ends before middle chain found limits coloured maximum =
+    let valid = limits .list .valid in
+    record {
+      writable = record {
+        colours = limits .ring .colours-to;
+        even = limits .list .even;
+        valid = valid;
+        room = omega (arith, limits .table, coloured-length n w (requestsOf ends) valid before middle chain coloured (limits .table));
+        matching = maximum .maximum .matching;
+      };
+      table = coloured-stays n w (requestsOf ends) valid before middle chain coloured;
+      chain = coloured .count;
+      matched = maximum .size;
+    }
+
+-- a call that is not turned down is within the limits
+pub made-fits : (n w : ℕ) (ends : List ℕ) (entries : ℕ) (r : Ring) → callAnswer n w ends entries ≡ ring.Made r → CallLimits (r .nodes) (r .colours) ends entries
+unfolding callAnswer
+made-fits n w ends entries r e =
+    let made = made-allowed (callVerdict n w ends entries) n w r e in
+    rw (made .1) (call-limits n w ends entries (made .0))
+
+-- what colouring asks
+pub colourable-if : (n w : ℕ) (ends table : List ℕ) → CallLimits n w ends (length table) → Colourable n w (requestsOf ends) table
+colourable-if n w ends table limits =
+    record { nodes = limits .ring .nodes-to; colours = limits .ring .colours-to; valid = limits .list .valid; room = limits .table }
+
+-- The promise of plan.
+
+-- a ground is there
+pub plan-refused : (n w : ℕ) (ends table : List ℕ) (ground : Refusal) → callAnswer n w ends (length table) ≡ ring.Refused ground
+    → PlanPromise n w ends table table (answer.Refused ground)
+unfolding callAnswer
+plan-refused n w ends table ground e =
+    let there = refused-verdict (callVerdict n w ends (length table)) e in
+    record {
+      refused = λ r f. (cc, refl);
+      planned = λ f. impossible (cc);
+    }
+  where
+    refused-verdict : (v : Verdict) → ringUnless v n w ≡ ring.Refused ground → v ≡ Refused ground
+    refused-verdict Allowed q = impossible (cc)
+    refused-verdict (Refused r) q = cc
+
+-- none is there
+pub plan-made : (n w : ℕ) (ends before after : List ℕ) (r : Ring) → callAnswer n w ends (length before) ≡ ring.Made r
+    → (P : List Pair) → IsMaximum (requestsOf ends) P → ByLower P → (counts : Summary) → Chosen (r .nodes) (r .colours) (requestsOf ends) P before after counts
+    → PlanPromise n w ends before after (answer.Planned counts)
+unfolding callAnswer
+plan-made n w ends before after r e P maximum lower counts chosen =
+    let made = made-allowed (callVerdict n w ends (length before)) n w r e in
+    let limits = call-limits n w ends (length before) (made .0) in
+    let valid = limits .list .valid in
+    let R = requestsOf ends in
+    let ours : Chosen n w R P before after counts = rw (made .1) at chosen in
+    record {
+      refused = λ ground f. impossible (cc);
+      planned = λ f. record {
+        pairs = P;
+        maximum = maximum;
+        byLower = lower;
+        counts = ap answer.Planned (ours .counts);
+        table = ours .table;
+        demand = rw (ours .table) (demand n w R valid (chain-is-optimal n w R valid) P maximum (drop (length R) before));
+      };
+    }

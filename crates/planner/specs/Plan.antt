@@ -1,0 +1,35 @@
+-- The plan and its counts.
+use Prim.Native.Nat.{ℕ}
+use mathlib.Core.Bool.{Bool, true, false}
+use mathlib.Core.List.{List}
+use lib.Dec.{ltb}
+use lib.ListN.{length}
+use Rattle.ring.specs.declared.requests.Request.{Request}
+use Rattle.ring.specs.declared.fates.Fate.{Fate}
+use Rattle.ring.specs.Plans.{served}
+use Rattle.ring.specs.Matchings.{Pair}
+use Rattle.chain.specs.ChainPart.{chainPart}
+use Rattle.planner.specs.declared.answers.Part.{Part}
+use Rattle.planner.specs.declared.answers.Part.the-variants as part
+use Rattle.planner.specs.declared.answers.Summary.{Summary}
+use Rattle.planner.specs.PairPart.{pairPart}
+
+-- "The plan is the part that serves more; on a tie, the chain part."
+abbrev pub better : Bool → Part
+better true = part.Pair
+better false = part.Chain
+
+unfoldable pub partUsed : ℕ → ℕ → List Request → List Pair → Part
+partUsed n w R P = better (ltb (served (chainPart n w R)) (served (pairPart n w R P)))
+
+abbrev pub planBy : Part → ℕ → ℕ → List Request → List Pair → List Fate
+planBy part.Pair n w R P = pairPart n w R P
+planBy part.Chain n w R P = chainPart n w R
+
+-- our plan, where the pair part follows from the matching P
+unfoldable pub planOf : ℕ → ℕ → List Request → List Pair → List Fate
+planOf n w R P = planBy (partUsed n w R P) n w R P
+
+-- "the requests served by the chain part, the match count, the requests served by the pair part, and the part used"
+unfoldable pub summary : ℕ → ℕ → List Request → List Pair → Summary
+summary n w R P = record { chain = served (chainPart n w R); matched = length P; paired = served (pairPart n w R P); used = partUsed n w R P }

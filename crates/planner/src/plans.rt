@@ -1,0 +1,64 @@
+// The plan: the better of the two parts.
+use super::answers::Part;
+use super::answers::PlanAnswer;
+use super::answers::Summary;
+use super::pairs::write_pairs;
+use chain::colour;
+use matching::maximum;
+use ring::Ring;
+use ring::requests::call_answer;
+use ring::rings::RingAnswer;
+use ring::ways::smaller;
+ghost use lib.ListN.{length};
+ghost use Rattle.ring.specs.Requests.{requestsOf};
+ghost use Rattle.matching.specs.Maximum.{pairsOf};
+ghost use Rattle.planner.specs.Promise.{PlanPromise};
+ghost use Rattle.planner.specs.Choosing.{Choosable, Chosen};
+
+// The pair part is written over the chain part if it serves more. The counts and the part used are given back.
+fn choose(
+    ring: Ring,
+    ends: &[u16],
+    mates: &[u16; 512],
+    size: usize,
+    chain: u16,
+    table: &mut [u16],
+) -> Summary
+    requires { ⌜ Choosable (ring .nodes) (ring .colours) (now ends) (now mates) (now table) chain size ⌝ }
+    ensures { λ r. ⌜ Chosen (ring .nodes) (ring .colours) (requestsOf (now (ends .entry))) (pairsOf (length (requestsOf (now (ends .entry)))) (now (mates .entry))) (now (table .entry)) (now (table .exit)) r ⌝ }
+{
+    let matched = size as u16;
+    let paired = 2 * smaller(matched, ring.colours);
+    if chain < paired {
+        write_pairs(ring, ends, mates, table);
+        return Summary {
+            chain,
+            matched,
+            paired,
+            used: Part::Pair,
+        };
+    }
+    Summary {
+        chain,
+        matched,
+        paired,
+        used: Part::Chain,
+    }
+}
+
+// The plan for a list of requests: its fate numbers in the first m entries of the table, and its counts. A refused call changes nothing.
+pub fn plan(n: u16, w: u16, ends: &[u16], table: &mut [u16]) -> PlanAnswer
+    ensures { λ r. ⌜ PlanPromise n w (now (ends .entry)) (now (table .entry)) (now (table .exit)) r ⌝ }
+{
+    let answer = call_answer(n, w, ends, table.len());
+    match answer {
+        RingAnswer::Refused(ground) => PlanAnswer::Refused(ground),
+        RingAnswer::Made(ring) => {
+            let chain = colour(ring, ends, table);
+            let found = maximum(ends);
+            let mates = found.mates;
+            let size = found.size;
+            PlanAnswer::Planned(choose(ring, ends, &mates, size, chain, table))
+        }
+    }
+}
