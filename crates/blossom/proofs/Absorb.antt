@@ -57,7 +57,7 @@ module _ (adj : ℕ → ℕ → Bool) (symmetric : Symmetric adj) (M : ℕ → �
         | yes f ↦ elim (test (s .base z) z) [
           | different g ↦ let i = I .inner-mate z e (cc) in cc (I .below-base v z ov e, I .below-base v (M z) ov (cc))
           | same g i ↦ let tz = I .base-mate z e g in elim (test (M z) z) [
-            | same j k ↦ cc (I .below-root v z ov e (cc))
+            | same j k ↦ cc
             | different j ↦ elim (test (M z) v) [
               | same k l ↦ elim (is (D v (M z))) [ yes n ↦ cc | no n ↦ cc ]
               | different k ↦ elim (label-case (s .label (M z))) [ is-free n ↦ cc | is-even n ↦ cc | is-frozen n ↦ cc | is-odd n ↦ cc (I .mates z) ]

@@ -185,7 +185,7 @@ module _ (adj : ℕ → ℕ → Bool) (symmetric : Symmetric adj) (M : ℕ → �
     | in-cycle a b e ↦
         let m = I .mate-odd z b in let t = I .odd-mate z b in let o = not-in-cycle (M z) (cc) in let d = apart-by-even (s .label) (M z) z (cc) (cc) in
         elim (test (s .base (M z)) k) [ same f i ↦ cc (I .mates z) | different f ↦ cc (I .mates z) ]
-    | at-base a b e f ↦ let i = I .inner-mate z b (cc) in let o = not-in-cycle (M z) (cc) in cc (eqb-refl k)
+    | at-base a b e f ↦ let i = I .inner-mate z b (cc) in let o = not-in-cycle (M z) (cc) in cc
     | on-cycle a b e f i ↦ elim (test (s .base z) z) [
       | same j l ↦ let o = G .cycle-odd (M (s .base z)) f in cc (apart-by-odd (s .label) (M z) z (cc) (cc) .left)
       | different j ↦ let u = I .inner-mate z b (cc) in let o = not-in-cycle (M z) (cc) in cc

@@ -84,7 +84,7 @@ module _ (adj : ℕ → ℕ → Bool) (symmetric : Symmetric adj) (M : ℕ → �
           | same e f ↦ cc
           | different d ↦ elim (test (M b) b) [
             | same e f ↦ elim base-hangs [
-              | from-root i j ↦ let br = eqb-true b r (cc (I .mate-even b (cc))) in cc (eqb-refl r)
+              | from-root i j ↦ let br = eqb-true b r (cc (I .mate-even b (cc))) in cc
               | from-odd i j ↦ cc (h (M k) i nk, I .below-root (M k) w i ew e)
             ]
             | different e ↦ elim (label-case (s .label (M b))) [

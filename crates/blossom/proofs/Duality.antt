@@ -138,7 +138,7 @@ module _ (adj : ℕ → ℕ → Bool) (m : ℕ) (M : ℕ → ℕ) (label : ℕ �
           | different f ↦ cc
           | same s t ↦ elim (label-case (label z)) [
             | is-free e ↦ cc
-            | is-frozen e ↦ cc (C .none-frozen z)
+            | is-frozen e ↦ cc
             | is-odd e ↦ cc
             | is-even e ↦ elim (is (lone? z)) [ yes o ↦ cc | no o ↦ cc ]
           ]

@@ -112,7 +112,7 @@ module _ (adj : ℕ → ℕ → Bool) (symmetric : Symmetric adj) (M : ℕ → �
     row-below' : (t a z : ℕ) → after .label t ≡ Odd → after .label a ≡ Even → below M after t a ≡ true → below M after t z ≡ true → below M after t (after .row a z) ≡ true
     row-below' t a z o h p q = elim (odd-at t o) [
       | new i ↦ elim (at a) [
-        | at-c g j ↦ elim (at z) [ at-c k l ↦ cc (below-y (after .row a z)) | at-y k l n ↦ cc (below-y z) | at-other k l n u ↦ cc (below-y z) ]
+        | at-c g j ↦ elim (at z) [ at-c k l ↦ cc | at-y k l n ↦ cc (below-y z) | at-other k l n u ↦ cc (below-y z) ]
         | at-y g j k ↦ cc
         | at-other g j k l ↦ cc (below-y a)
       ]

@@ -47,7 +47,7 @@ module _ (adj : ℕ → ℕ → Bool) (M : ℕ → ℕ) (mates : Mates adj M) (f
     mate-free = λ z h. let l = S .labels (M z) in elim (at z) [ at-root e f g ↦ cc | at-frozen e f g i ↦ cc | at-free e f g i ↦ cc (mf z) ];
     mate-frozen = λ z h. let l = S .labels (M z) in elim (at z) [ at-root e f g ↦ cc | at-frozen e f g i ↦ cc (mf z) | at-free e f g i ↦ cc ];
     mate-odd = λ z h. no-odd z h;
-    mate-even = λ z h. cc (is-root z h, eqb-refl r);
+    mate-even = λ z h. cc (is-root z h);
     root = cc (S .labels r, eqb-refl r);
     rows = λ x h z.
         let w = mates z in let e = is-root x h in let f = S .root-row z in let g = S .root-row (M z) in
@@ -60,7 +60,7 @@ module _ (adj : ℕ → ℕ → Bool) (M : ℕ → ℕ) (mates : Mates adj M) (f
     row-below = λ t x z o. no-odd t o;
     row-away = λ t x z o. no-odd t o;
     base-even = λ z h. cc (is-root z h, S .root-base);
-    inner-mate = λ z h n. cc (is-root z h, S .root-base, eqb-refl r);
+    inner-mate = λ z h n. cc (is-root z h, S .root-base);
     base-mate = λ z h b. cc (is-root z h, eqb-refl r);
     odd-mate = λ t o. no-odd t o;
     below-base = λ t z o. no-odd t o;

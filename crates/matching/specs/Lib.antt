@@ -1,4 +1,5 @@
--- What `maximum` promises, and, for the functions inside, what its arrays stand for while it searches.
+-- `Maximum` is the promise, and all that a reader must believe. The others are for the contracts of the functions inside: the graph, what the arrays
+-- stand for in the theory of the search (crate `blossom`), and what each step does to them.
 pub mod Maximum
 pub mod Adjacency
 pub mod Model

@@ -1,4 +1,4 @@
--- What the arrays stand for between two searches and during one. No reader of the promise of `maximum` needs these: the functions inside cite them.
+-- What the arrays stand for between two searches and during one.
 use Prim.Native.Nat.{ℕ, suc, _<_, _≤_}
 use mathlib.Core.Path.{_≡_}
 use mathlib.Core.Bool.{Bool, true, false}
