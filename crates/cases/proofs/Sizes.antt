@@ -1,0 +1,98 @@
+-- The size of a maximum matching, from one matching of that size and a bound for all; and the counts that follow.
+use Prim.Native.Nat.{ℕ, zero, suc, _+_, _*_, _≤_, _<_, min}
+use mathlib.Core.Path.{_≡_, refl, sym, ap, _∙_}
+use mathlib.Core.Bool.{Bool, true, false, not, _&&_, _||_}
+use mathlib.Core.List.{List, [], _∷_}
+use native.Mathlib.Omega.{arith}
+use lib.Dec.{eqb, ltb}
+use lib.ListN.{length, getD}
+use borrow.Author.Tests.{ltb-true}
+use Rattle.ring.specs.declared.requests.Request.{Request}
+use Rattle.ring.specs.Requests.{request}
+use Rattle.ring.specs.declared.fates.Fate.{Fate}
+use Rattle.ring.specs.Plans.{served}
+use Rattle.ring.specs.Chords.{compatible}
+use Rattle.ring.specs.Matchings.{Pair, pair, endsOf, NoTwice, IsMatching, IsMaximum}
+use Rattle.ring.proofs.Cases.{eqb-refl, impossible}
+use Rattle.ring.proofs.Counting.{has}
+use Rattle.chain.specs.ChainPart.{chainPart}
+use Rattle.planner.specs.PairPart.{pairPart, ByLower}
+use Rattle.planner.specs.Plan.{better, partUsed, planOf, summary}
+use Rattle.planner.specs.Ceiling.{MatchBound}
+use Rattle.planner.proofs.PairLaws.{pair-part-serves}
+use Rattle.planner.proofs.PlanLaws.{plan-chain}
+use Rattle.cases.specs.Table.{line2}
+
+-- no number stands twice, as a test
+abbrev pub distinct : List ℕ → Bool
+distinct [] = true
+distinct (x ∷ l) = not (has l x) && distinct l
+
+both : (p q : Bool) → (p && q) ≡ true → (p ≡ true) × (q ≡ true)
+both true q e = (refl, e)
+both false q e = impossible (sym e)
+
+has-entry : (l : List ℕ) (j : ℕ) → j < length l → has l (getD l j 0) ≡ true
+has-entry [] j h = absurd (omega arith)
+has-entry (x ∷ l) zero h = cc (eqb-refl x)
+has-entry (x ∷ l) (suc j) h = go (eqb (getD l j 0) x) (has-entry l j (omega arith))
+  where
+    go : (b : Bool) → has l (getD l j 0) ≡ true → (b || has l (getD l j 0)) ≡ true
+    go true e = refl
+    go false e = e
+
+distinct-once : (l : List ℕ) → distinct l ≡ true → NoTwice l
+distinct-once [] e i j h k q = absurd (omega arith)
+distinct-once (x ∷ l) e zero zero h k q = absurd (omega arith)
+distinct-once (x ∷ l) e zero (suc j) h k q = impossible (cc (both (not (has l x)) (distinct l) e .0, has-entry l j (omega arith)))
+distinct-once (x ∷ l) e (suc i) zero h k q = absurd (omega arith)
+distinct-once (x ∷ l) e (suc i) (suc j) h k q = distinct-once l (both (not (has l x)) (distinct l) e .1) i j (omega arith) (omega arith) q
+
+-- the pairs are of compatible requests, as a test
+abbrev pub allPairs : List Request → List Pair → Bool
+allPairs R [] = true
+allPairs R (p ∷ P) = (ltb (p .first) (length R) && ltb (p .second) (length R)) && (compatible (request R (p .first)) (request R (p .second)) && allPairs R P)
+
+pairs-ok : (R : List Request) (P : List Pair) → allPairs R P ≡ true → (k : ℕ) → k < length P
+    → ((pair P k .first < length R) × (pair P k .second < length R)) × (compatible (request R (pair P k .first)) (request R (pair P k .second)) ≡ true)
+pairs-ok R [] e k h = absurd (omega arith)
+pairs-ok R (p ∷ P) e zero h =
+    let halves = both (ltb (p .first) (length R) && ltb (p .second) (length R)) (compatible (request R (p .first)) (request R (p .second)) && allPairs R P) e in
+    let inside = both (ltb (p .first) (length R)) (ltb (p .second) (length R)) (halves .0) in (
+      (ltb-true (p .first) (length R) (inside .0), ltb-true (p .second) (length R) (inside .1)),
+      both (compatible (request R (p .first)) (request R (p .second))) (allPairs R P) (halves .1) .0,
+    )
+pairs-ok R (p ∷ P) e (suc k) h =
+    let halves = both (ltb (p .first) (length R) && ltb (p .second) (length R)) (compatible (request R (p .first)) (request R (p .second)) && allPairs R P) e in
+    pairs-ok R P (both (compatible (request R (p .first)) (request R (p .second))) (allPairs R P) (halves .1) .1) k (omega arith)
+
+-- both tests together make a matching
+pub matching-if : (R : List Request) (P : List Pair) → allPairs R P ≡ true → distinct (endsOf P) ≡ true → IsMatching R P
+matching-if R P e d = record {
+  numbers = λ k h. pairs-ok R P e k h .0;
+  compatibles = λ k h. pairs-ok R P e k h .1;
+  once = distinct-once (endsOf P) d;
+}
+
+-- what is computed of a case: the chain part, a matching, and that none is larger
+pub record Computed (n w : ℕ) (R : List Request) (fates : List Fate) (pairs : List Pair) : Type 0 where
+  pub chain : chainPart n w R ≡ fates
+  pub matching : IsMatching R pairs
+  pub bound : MatchBound R (length pairs)
+
+module _ (n w : ℕ) (R : List Request) (fates : List Fate) (pairs : List Pair) (computed : Computed n w R fates pairs) (P : List Pair) (maximum : IsMaximum R P) where
+  -- every maximum matching has the size of a matching than which none is larger
+  pub size : length P ≡ length pairs
+  size = omega (arith, computed .bound P (maximum .matching), maximum .largest pairs (computed .matching))
+
+  pub paired : served (pairPart n w R P) ≡ 2 * min (length pairs) w
+  paired = pair-part-serves n w R P (maximum .matching) ∙ ap (λ k. 2 * min k w) size
+
+  -- the counts of line 2
+  pub counts-are : summary n w R P ≡ line2 (served fates) (length pairs) (2 * min (length pairs) w) (better (ltb (served fates) (2 * min (length pairs) w)))
+  unfolding summary partUsed
+  counts-are = rw (computed .chain, size, paired)
+
+  -- the plan, where the chain part serves enough
+  pub chain-is-plan : 2 * min (length pairs) w ≤ served fates → planOf n w R P ≡ fates
+  chain-is-plan h = plan-chain n w R P (rw (computed .chain, paired) h) ∙ computed .chain

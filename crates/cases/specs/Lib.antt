@@ -1,0 +1,2 @@
+-- The cases that document 01 wants proved.
+pub mod Table

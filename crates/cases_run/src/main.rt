@@ -1,0 +1,94 @@
+// Runs the cases that are not proved, and the inputs on which planners make mistakes, through the offered operations, and writes what these answer.
+mod answers;
+
+use answers::show_check;
+use answers::show_grant;
+use answers::show_holder;
+use answers::show_open;
+use answers::show_plan;
+use answers::show_removal;
+use answers::write;
+use book::open;
+
+// Ring and number of colours outside the limits.
+fn limits(n: u16, w: u16) {
+    let ends = [0u16, 1];
+    let mut table = [0u16; 1];
+    show_plan(n, w, &ends, &mut table);
+    show_check(n, w, &ends, &table);
+    show_open(n, w);
+}
+
+// One request more than a list may have: that ground comes before the equal ends of request 0.
+fn many_requests() {
+    let ends = [0u16; 1026];
+    let mut table = [0u16; 513];
+    show_plan(8, 1, &ends, &mut table);
+    show_check(8, 1, &ends, &table);
+}
+
+// The lowest fitting colour would serve 3.
+fn latest_end() {
+    let ends = [0u16, 2, 1, 3, 3, 5, 2, 6];
+    let mut table = [0u16; 4];
+    show_plan(7, 2, &ends, &mut table);
+    show_check(7, 2, &ends, &table);
+}
+
+// Requests 0 and 1 as a pair leave requests 2 and 3, which cross: one pair that no free pair enlarges, where two pairs are there.
+fn enlarged_matching() {
+    let ends = [2u16, 4, 0, 7, 1, 5, 3, 6];
+    let mut table = [0u16; 4];
+    show_plan(8, 2, &ends, &mut table);
+    show_check(8, 2, &ends, &table);
+}
+
+// From two pairs to three the search has to go round an odd cycle of compatible requests.
+fn odd_cycle() {
+    let ends = [4u16, 9, 0, 11, 6, 8, 3, 10, 1, 5, 2, 7];
+    let mut table = [0u16; 6];
+    show_plan(12, 3, &ends, &mut table);
+    show_check(12, 3, &ends, &table);
+}
+
+// The chords share end 0 and make a pair.
+fn shared_end() {
+    let ends = [0u16, 2, 3, 0];
+    let mut table = [0u16; 2];
+    show_plan(4, 1, &ends, &mut table);
+    show_check(4, 1, &ends, &table);
+}
+
+// The seam way of {2,5} uses links 5 to 7 and links 0 and 1, and all of them are free again once it is removed.
+fn seam_removal() {
+    let opened = open(8, 1);
+    let book = opened.book;
+    let held = show_grant(book, 2, 5, 1);
+    show_holder(held, 1);
+    show_holder(held, 2);
+    show_holder(held, 7);
+    let refused = show_grant(held, 0, 2, 0);
+    let freed = show_removal(refused, 1);
+    show_holder(freed, 1);
+    show_holder(freed, 7);
+    let again = show_grant(freed, 0, 2, 0);
+    show_holder(again, 1);
+}
+
+fn main() {
+    write(b"outside the limits\n");
+    limits(2, 1);
+    limits(257, 1);
+    limits(8, 0);
+    limits(8, 129);
+    many_requests();
+    write(b"the colour of the latest end\n");
+    latest_end();
+    write(b"a matching that no free pair enlarges\n");
+    enlarged_matching();
+    odd_cycle();
+    write(b"chords that share an end\n");
+    shared_end();
+    write(b"the links of a removed seam way\n");
+    seam_removal();
+}

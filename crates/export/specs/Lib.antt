@@ -1,0 +1,3 @@
+-- The C interface: what each call answers, in numbers.
+pub mod Values
+pub mod Calls

@@ -1,0 +1,67 @@
+// The calls.
+use super::values::part_number;
+use super::values::put;
+use super::values::refused;
+use checker::CheckAnswer;
+use checker::check;
+use planner::PlanAnswer;
+use planner::Summary;
+use planner::plans::plan;
+ghost use mathlib.Core.Path.{_≡_};
+ghost use Rattle.checker.specs.Check.{checkAnswer};
+ghost use Rattle.planner.specs.declared.answers.PlanAnswer.the-variants.{Planned};
+ghost use Rattle.export.specs.Values.{planValues, checkResult, checkValues};
+ghost use Rattle.export.specs.Calls.{PlanCall};
+
+// The counts and the part of a plan.
+fn put_summary(values: &mut [u16], summary: Summary)
+    ensures { λ _. ⌜ now (values .exit) ≡ planValues (Planned summary) (now (values .entry)) ⌝ }
+{
+    let used = summary.used;
+    put(values, 0, summary.chain);
+    put(values, 1, summary.matched);
+    put(values, 2, summary.paired);
+    put(values, 3, part_number(used));
+}
+
+// Plans the requests of the ends into the table. Values: chain, match, pair, part (0 chain, 1 pair).
+#[no_mangle]
+pub extern "C" fn tarziloen_plan(
+    n: u16,
+    w: u16,
+    ends: &[u16],
+    table: &mut [u16],
+    values: &mut [u16],
+) -> u16
+    ensures { λ r. ⌜ PlanCall n w (now (ends .entry)) (now (table .entry)) (now (table .exit)) (now (values .entry)) (now (values .exit)) r ⌝ }
+{
+    let answer = plan(n, w, ends, table);
+    match answer {
+        PlanAnswer::Planned(summary) => {
+            put_summary(values, summary);
+            0
+        }
+        PlanAnswer::Refused(refusal) => refused(refusal, values),
+    }
+}
+
+// Checks the table for the requests of the ends. Values: the number served.
+#[no_mangle]
+pub extern "C" fn tarziloen_check(
+    n: u16,
+    w: u16,
+    ends: &[u16],
+    table: &[u16],
+    values: &mut [u16],
+) -> u16
+    ensures { λ r. ⌜ (r ≡ checkResult (checkAnswer n w (now (ends .entry)) (now (table .entry)))) × (now (values .exit) ≡ checkValues (checkAnswer n w (now (ends .entry)) (now (table .entry))) (now (values .entry))) ⌝ }
+{
+    let answer = check(n, w, ends, table);
+    match answer {
+        CheckAnswer::Passed(served) => {
+            put(values, 0, served);
+            0
+        }
+        CheckAnswer::Refused(refusal) => refused(refusal, values),
+    }
+}

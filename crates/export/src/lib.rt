@@ -1,0 +1,3 @@
+// The product as a static library with a C interface, on numbers and slices only.
+pub mod calls;
+pub mod values;

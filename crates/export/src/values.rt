@@ -1,0 +1,51 @@
+// Answers as numbers.
+use planner::Part;
+use ring::Refusal;
+use ring::refusals::Carried;
+use ring::refusals::carried_by;
+use ring::refusals::number;
+ghost use mathlib.Core.Path.{_≡_};
+ghost use lib.ListN.{set};
+ghost use Rattle.ring.specs.Refusals.{numberOf, carriedBy};
+ghost use Rattle.export.specs.Values.{carriedIn, partNumber};
+
+// Stores a value, if there is an entry for it.
+pub fn put(values: &mut [u16], at: usize, value: u16)
+    ensures { λ _. ⌜ now (values .exit) ≡ set (now (values .entry)) at value ⌝ }
+{
+    if at < values.len() {
+        values[at] = value;
+    }
+}
+
+// Stores what a refusal carries.
+fn put_carried(values: &mut [u16], carried: Carried)
+    ensures { λ _. ⌜ now (values .exit) ≡ carriedIn carried (now (values .entry)) ⌝ }
+{
+    match carried {
+        Carried::None => {}
+        Carried::One(first) => put(values, 0, first),
+        Carried::Two(first, second) => {
+            put(values, 0, first);
+            put(values, 1, second);
+        }
+    }
+}
+
+// The number of a refusal; what it carries goes into the slice.
+pub fn refused(refusal: Refusal, values: &mut [u16]) -> u16
+    ensures { λ r. ⌜ (r ≡ numberOf refusal) × (now (values .exit) ≡ carriedIn (carriedBy refusal) (now (values .entry))) ⌝ }
+{
+    put_carried(values, carried_by(refusal));
+    number(refusal)
+}
+
+// 0 for the chain part, 1 for the pair part.
+pub fn part_number(part: Part) -> u16
+    ensures { λ r. ⌜ r ≡ partNumber part ⌝ }
+{
+    match part {
+        Part::Chain => 0,
+        Part::Pair => 1,
+    }
+}

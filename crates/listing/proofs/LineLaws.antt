@@ -1,0 +1,89 @@
+-- The lines of a text, and the whole text.
+use Prim.Native.Nat.{ℕ, zero, suc, _+_, _*_, _-_, _≤_, _<_}
+use mathlib.Core.Path.{_≡_, refl, sym, _∙_, ap}
+use mathlib.Core.Bool.{true, false, cond}
+use mathlib.Core.List.{List, [], _∷_, _++_, append-assoc}
+use native.Mathlib.Omega.{arith}
+use native.Mathlib.Numerals.{add-one, unary-clauses}
+use lib.Dec.{ltb}
+use lib.ListN.{length, getD, take, drop, set, length-set, drop-of-length-le}
+use lib.Seq.{take-suc-set}
+use borrow.Author.Tests.{lt-ltb, le-ltb}
+use Rattle.listing.specs.Reading.{line, Line, broken, two, onLine, linesFrom, Lines, unfit, all, heading, Heading, none, numbers, withRing, formOf, readingOf}
+use Rattle.listing.specs.Positions.{lineIn, headingIn, linesIn, LineRead, HeadingRead, LinesRead, ReadingRead}
+use Rattle.listing.specs.declared.reading.LineAt.{LineAt}
+use Rattle.listing.specs.declared.reading.LineAt.the-variants as lineAt
+use Rattle.listing.specs.declared.reading.LinesAt.{LinesAt}
+use Rattle.listing.specs.declared.reading.LinesAt.the-variants as linesAt
+use Rattle.listing.specs.declared.reading.HeadingAt.{HeadingAt}
+use Rattle.listing.specs.declared.reading.HeadingAt.the-variants as headingAt
+use Rattle.listing.specs.declared.reading.ReadingAt.the-variants as readingAt
+use Rattle.listing.proofs.ReadingLaws.{drop-next}
+
+-- a line that was found, and one that was not, as the definition has them
+pub line-is : {at x y next : ℕ} {text : List ℕ} {r : LineAt} → LineRead text at r → r ≡ lineAt.Ends x y next
+    → (line (drop at text) ≡ two x y (drop next text)) × ((at + 4 ≤ next) × (next ≤ length text))
+line-is {at} {x} {y} {next} {text} {r} s e = (sym (s .same) ∙ ap (lineIn text) e, rw e at (s .fits))
+
+pub line-is-not : {at : ℕ} {text : List ℕ} {r : LineAt} → LineRead text at r → r ≡ lineAt.Broken → line (drop at text) ≡ broken
+line-is-not {at} {text} {r} s e = sym (s .same) ∙ ap (lineIn text) e
+
+-- two numbers more in a buffer
+pub take-two : (l : List ℕ) (i x y : ℕ) → i + 1 < length l → take (i + 2) (set (set l i x) (i + 1) y) ≡ take i l ++ (x ∷ y ∷ [])
+take-two l i x y h =
+    let next : i + 2 ≡ suc (i + 1) = omega arith in
+    let one : take (i + 1) (set l i x) ≡ take i l ++ (x ∷ []) = rw add-one (take-suc-set l i x (omega arith)) in
+    let inside : i + 1 < length (set l i x) = rw length-set h in
+    rw (next, take-suc-set (set l i x) (i + 1) y inside, one) (append-assoc (take i l) (x ∷ []) (y ∷ []))
+
+-- a line more is the first of those that are left
+lines-suc : (sofar : List ℕ) (left : ℕ) (text : List ℕ) → 0 < left
+    → linesFrom sofar left text ≡ onLine (line text) unfit (λ x y rest. linesFrom (sofar ++ (x ∷ y ∷ [])) (left - 1) rest)
+lines-suc sofar zero text h = absurd (omega arith)
+lines-suc sofar (suc left) text h = simp unary-clauses refl
+
+pub lines-turn : (buffer text : List ℕ) (count left at x y next : ℕ) → 0 < left → count + 1 < length buffer → line (drop at text) ≡ two x y (drop next text)
+    → linesFrom (take (count + 2) (set (set buffer count x) (count + 1) y)) (left - 1) (drop next text) ≡ linesFrom (take count buffer) left (drop at text)
+lines-turn buffer text count left at x y next h l e =
+    rw (take-two buffer count x y l) (sym (lines-suc (take count buffer) left (drop at text) h ∙ rw e refl))
+
+-- a line that is none
+pub lines-broken : (sofar text : List ℕ) (left at : ℕ) → 0 < left → line (drop at text) ≡ broken → unfit ≡ linesFrom sofar left (drop at text)
+lines-broken sofar text left at h e = sym (lines-suc sofar left (drop at text) h ∙ rw e refl)
+
+-- no line is left: nothing may follow
+pub lines-ended : (sofar text : List ℕ) (left at : ℕ) → left ≤ 0 → length text ≤ at → all sofar ≡ linesFrom sofar left (drop at text)
+lines-ended sofar text zero at z h = rw (drop-of-length-le text h) refl
+lines-ended sofar text (suc left) at z h = absurd (omega arith)
+
+pub lines-followed : (sofar text : List ℕ) (left at : ℕ) → left ≤ 0 → at < length text → unfit ≡ linesFrom sofar left (drop at text)
+lines-followed sofar text zero at z h = rw (drop-next text at h) refl
+lines-followed sofar text (suc left) at z h = absurd (omega arith)
+
+-- the first line ends within the text
+pub heading-inside : {text : List ℕ} {n w m next : ℕ} {r : HeadingAt} → HeadingRead text r → r ≡ headingAt.Numbers n w m next → next ≤ length text
+heading-inside s e = rw e at (s .fits)
+
+-- the whole text, from its first line and its other lines
+pub read-long : (text buffer : List ℕ) → 8192 < length text → ReadingRead text buffer readingAt.Unreadable
+unfolding readingOf
+read-long text buffer h = record { same = rw (lt-ltb 8192 (length text) h) refl; fits = tt }
+
+module _ {text : List ℕ} (short : length text ≤ 8192) where
+  pub read-no-heading : {buffer : List ℕ} {r : HeadingAt} → HeadingRead text r → r ≡ headingAt.Missing → ReadingRead text buffer readingAt.Unreadable
+  unfolding readingOf formOf
+  read-no-heading {buffer} {r} s e = record { same = rw (le-ltb 8192 (length text) short, ← s .same, e) refl; fits = tt }
+
+  pub read-no-lines : {buffer : List ℕ} {n w m next : ℕ} {r : HeadingAt} {t : LinesAt} → HeadingRead text r → r ≡ headingAt.Numbers n w m next
+      → LinesRead text next m buffer t → t ≡ linesAt.Unfit → ReadingRead text buffer readingAt.Unreadable
+  unfolding readingOf formOf
+  read-no-lines {buffer} {n} {w} {m} {next} {r} {t} s e l q =
+      let rest : linesFrom [] m (drop next text) ≡ unfit = sym (l .same) ∙ ap (linesIn buffer) q in
+      record { same = rw (le-ltb 8192 (length text) short, ← s .same, e, rest) refl; fits = tt }
+
+  pub read-whole : {buffer : List ℕ} {n w m next count : ℕ} {r : HeadingAt} {t : LinesAt} → HeadingRead text r → r ≡ headingAt.Numbers n w m next
+      → LinesRead text next m buffer t → t ≡ linesAt.All count → ReadingRead text buffer (readingAt.Readable n w count)
+  unfolding readingOf formOf
+  read-whole {buffer} {n} {w} {m} {next} {count} {r} {t} s e l q =
+      let rest : linesFrom [] m (drop next text) ≡ all (take count buffer) = sym (l .same) ∙ ap (linesIn buffer) q in
+      record { same = rw (le-ltb 8192 (length text) short, ← s .same, e, rest) refl; fits = rw q at (l .fits) }

@@ -1,0 +1,63 @@
+use native.Mathlib.Omega.{arith}
+use Rattle.listing.proofs.LineLaws.{heading-inside, read-long, read-no-heading, read-no-lines, read-whole}
+use borrow.Author.Needs.{needs}
+use Rattle.listing.proofs.reading.read.Statement.{statement}
+use Rattle.listing.proofs.reading.read.Tie as tie
+
+returns : tie.Need-returns
+returns c = read-long _ _ (c .if1 .taken)
+
+heading-requires : tie.Need-heading-requires
+heading-requires c κs = search needs
+
+enum-known-first : tie.Need-enum-known-first
+enum-known-first c = search needs
+
+enum-told : tie.Need-enum-told
+enum-told c = search needs
+
+returns-2 : tie.Need-returns-2
+returns-2 c = read-no-heading (c .before .before .before .if1 .left) (c .before .before .heading .ensures) (c .enum-told .given .1)
+
+request-lines-requires : tie.Need-request-lines-requires
+request-lines-requires c κs =
+    record { inside = heading-inside (c .before .before .before .before .heading .ensures) (c .before .before .first .given .1); short = omega arith; room = omega arith }
+
+enum-known-lines : tie.Need-enum-known-lines
+enum-known-lines c = search needs
+
+enum-told-2 : tie.Need-enum-told-2
+enum-told-2 c = search needs
+
+same-length : tie.Need-same-length
+same-length c = search needs
+
+returns-3 : tie.Need-returns-3
+returns-3 c =
+    read-no-lines (c .before .before .before .before .before .before .before .before .before .before .if1 .left) (c .before .before .before .before .before .before .before .before .before .heading .ensures) (c .before .before .before .before .before .before .before .first .given .1)
+    (c .before .before .before .before .request-lines .ensures) (c .enum-told2 .given .1)
+
+same-length-2 : tie.Need-same-length-2
+same-length-2 c = search needs
+
+returns-4 : tie.Need-returns-4
+returns-4 c =
+    read-whole (c .before .before .before .before .before .before .before .before .before .before .before .if1 .left) (c .before .before .before .before .before .before .before .before .before .before .heading .ensures) (c .before .before .before .before .before .before .before .before .first .given .1)
+    (c .before .before .before .before .before .request-lines .ensures) (c .before .lines .given .1)
+
+pub read-spec : {M : Type 1} → statement M
+read-spec =
+    tie.close
+    (tie.spec
+    returns
+    heading-requires
+    enum-known-first
+    enum-told
+    returns-2
+    request-lines-requires
+    enum-known-lines
+    enum-told-2
+    same-length
+    returns-3
+    same-length-2
+    returns-4)

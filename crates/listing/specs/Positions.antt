@@ -1,0 +1,89 @@
+-- What the functions inside find at positions of a text, read as the texts behind those positions.
+use Prim.Native.Nat.{ℕ, _+_, _≤_}
+use mathlib.Core.Path.{_≡_}
+use mathlib.Core.List.{List, []}
+use lib.ListN.{length, take, drop}
+use Rattle.listing.specs.Reading.{field, line, heading, linesFrom, readingOf, Field, missing, found, Line, broken, two, Lines, unfit, all, Heading, none, numbers, Reading, unreadable, readable}
+use Rattle.listing.specs.declared.reading.FieldAt.{FieldAt}
+use Rattle.listing.specs.declared.reading.FieldAt.the-variants as fieldAt
+use Rattle.listing.specs.declared.reading.LineAt.{LineAt}
+use Rattle.listing.specs.declared.reading.LineAt.the-variants as lineAt
+use Rattle.listing.specs.declared.reading.LinesAt.{LinesAt}
+use Rattle.listing.specs.declared.reading.LinesAt.the-variants as linesAt
+use Rattle.listing.specs.declared.reading.HeadingAt.{HeadingAt}
+use Rattle.listing.specs.declared.reading.HeadingAt.the-variants as headingAt
+use Rattle.listing.specs.declared.reading.ReadingAt.{ReadingAt}
+use Rattle.listing.specs.declared.reading.ReadingAt.the-variants as readingAt
+
+-- the number with the text behind it
+abbrev pub fieldIn : List ℕ → FieldAt → Field
+fieldIn text fieldAt.Missing = missing
+fieldIn text (fieldAt.Found value next) = found value (drop next text)
+
+-- the line with the text behind it
+abbrev pub lineIn : List ℕ → LineAt → Line
+lineIn text lineAt.Broken = broken
+lineIn text (lineAt.Ends x y next) = two x y (drop next text)
+
+-- the first line with the text behind it
+abbrev pub headingIn : List ℕ → HeadingAt → Heading
+headingIn text headingAt.Missing = none
+headingIn text (headingAt.Numbers n w m next) = numbers n w m (drop next text)
+
+-- the ends of the lines, which stand first in a buffer
+abbrev pub linesIn : List ℕ → LinesAt → Lines
+linesIn buffer linesAt.Unfit = unfit
+linesIn buffer (linesAt.All count) = all (take count buffer)
+
+-- the reading, whose ends stand first in a buffer
+abbrev pub readingIn : List ℕ → ReadingAt → Reading
+readingIn buffer readingAt.Unreadable = unreadable
+readingIn buffer (readingAt.Readable n w count) = readable n w (take count buffer)
+
+-- what was found ends within the text, so many bytes on at the least
+abbrev pub FieldFits : ℕ → ℕ → FieldAt → Type 0
+FieldFits least most fieldAt.Missing = Unit
+FieldFits least most (fieldAt.Found value next) = (least ≤ next) × (next ≤ most)
+
+abbrev pub LineFits : ℕ → ℕ → LineAt → Type 0
+LineFits least most lineAt.Broken = Unit
+LineFits least most (lineAt.Ends x y next) = (least ≤ next) × (next ≤ most)
+
+abbrev pub HeadingFits : ℕ → HeadingAt → Type 0
+HeadingFits most headingAt.Missing = Unit
+HeadingFits most (headingAt.Numbers n w m next) = next ≤ most
+
+abbrev pub LinesFit : LinesAt → Type 0
+LinesFit linesAt.Unfit = Unit
+LinesFit (linesAt.All count) = count ≤ 4096
+
+abbrev pub ReadingFits : ReadingAt → Type 0
+ReadingFits readingAt.Unreadable = Unit
+ReadingFits (readingAt.Readable n w count) = count ≤ 4096
+
+-- a number closed by a byte, read at a position: with one digit and its closing byte it is two bytes long
+pub record FieldRead (close : ℕ) (text : List ℕ) (at : ℕ) (result : FieldAt) : Type 0 where
+  pub same : fieldIn text result ≡ field close (drop at text)
+  pub fits : FieldFits (at + 2) (length text) result
+
+pub record LineRead (text : List ℕ) (at : ℕ) (result : LineAt) : Type 0 where
+  pub same : lineIn text result ≡ line (drop at text)
+  pub fits : LineFits (at + 4) (length text) result
+
+pub record HeadingRead (text : List ℕ) (result : HeadingAt) : Type 0 where
+  pub same : headingIn text result ≡ heading text
+  pub fits : HeadingFits (length text) result
+
+-- a position in a text of at most 8,192 bytes, and room for the ends of as many lines as it can hold
+pub record LinesFitIn (text : List ℕ) (at : ℕ) (buffer : List ℕ) : Type 0 where
+  pub inside : at ≤ length text
+  pub short : length text ≤ 8192
+  pub room : 4096 ≤ length buffer
+
+pub record LinesRead (text : List ℕ) (at m : ℕ) (buffer : List ℕ) (result : LinesAt) : Type 0 where
+  pub same : linesIn buffer result ≡ linesFrom [] m (drop at text)
+  pub fits : LinesFit result
+
+pub record ReadingRead (text buffer : List ℕ) (result : ReadingAt) : Type 0 where
+  pub same : readingIn buffer result ≡ readingOf text
+  pub fits : ReadingFits result

@@ -1,0 +1,108 @@
+-- What the steps of the block writer leave in a block.
+use Prim.Native.Nat.{ℕ, _+_, _-_, _/_, _%_, _≤_}
+use mathlib.Core.Path.{_≡_, refl, sym, _∙_, ap}
+use mathlib.Core.List.{List, [], _∷_, _++_, append-nil}
+use native.Mathlib.Omega.{arith}
+use lib.ListN.{length, replicate, length-append, length-replicate}
+use lib.Seq.{take-append-le}
+use Rattle.ring.proofs.Cases.{Compare, compare, less, not-less}
+use Rattle.book.specs.declared.circuits.Circuit.{Circuit}
+use Rattle.ring.specs.declared.fates.Fate.the-variants.{Served}
+use Rattle.ring.specs.Fates.{fateNumber}
+use Rattle.stored.specs.Forms.{recordBytes}
+use Rattle.stored.specs.Blocks.{word, written, weighted, checkOf, numbered, blockOf, sealed}
+use Rattle.stored.proofs.Lists.{pad, pad-none, pad-written, pad-zeros, written-append}
+
+-- a number of more than 16 bits is cut
+quotients : (x : ℕ) → x / 65536 ≡ x / 256 / 256
+quotients x =
+    elim (compare (x / 65536) (x / 256 / 256)) [
+      | less h e ↦ absurd (omega arith)
+      | not-less h e ↦
+          elim (compare (x / 256 / 256) (x / 65536)) [
+            | less k e ↦ absurd (omega arith)
+            | not-less k e ↦ omega arith
+          ]
+    ]
+
+middle : (x : ℕ) → x % 65536 / 256 ≡ x / 256 % 256
+middle x =
+    let q = quotients x in
+    elim (compare (x % 65536 / 256) (x / 256 % 256)) [
+      | less h e ↦ absurd (omega arith)
+      | not-less h e ↦
+          elim (compare (x / 256 % 256) (x % 65536 / 256)) [
+            | less k e ↦ absurd (omega arith)
+            | not-less k e ↦ omega arith
+          ]
+    ]
+
+pub word-cut : (x : ℕ) → word (x % 65536) ≡ word x
+word-cut x =
+    let e : x % 65536 % 256 ≡ x % 256 = omega arith in
+    let f : x % 65536 / 256 % 256 ≡ x / 256 % 256 = omega (arith, middle x) in
+    ap (λ (y : ℕ). y ∷ x % 65536 / 256 % 256 ∷ []) e ∙ ap (λ (y : ℕ). x % 256 ∷ y ∷ []) f
+
+module _ (k : ℕ) (l : List ℕ) (h : length l ≤ 508) where
+  pub filled-length : length (l ++ replicate (508 - length l) 0) ≡ 508
+  filled-length = length-append l (replicate (508 - length l) 0) ∙ ap (λ (j : ℕ). length l + j) (length-replicate (508 - length l) 0) ∙ omega arith
+
+  pub numbered-length : length (numbered k l) ≡ 510
+  unfolding numbered
+  numbered-length = length-append (l ++ replicate (508 - length l) 0) (word k) ∙ ap (λ (j : ℕ). j + 2) filled-length
+
+  pub block-length : length (blockOf k l) ≡ 512
+  unfolding blockOf
+  block-length = length-append (numbered k l) (word (checkOf (numbered k l))) ∙ ap (λ (j : ℕ). j + 2) numbered-length
+
+  pub pad-numbered : written (pad l) 508 (word k) ≡ pad (numbered k l)
+  unfolding numbered
+  pad-numbered =
+      ap (λ (xs : List ℕ). written xs 508 (word k)) (pad-zeros l (508 - length l) (omega arith))
+      ∙ pad-written (l ++ replicate (508 - length l) 0) (word k) 508 filled-length (omega arith)
+
+  -- the check of a block is that of its first 510 bytes
+  pub check-first : (rest : List ℕ) → checkOf (numbered k l ++ rest) ≡ checkOf (numbered k l)
+  unfolding checkOf
+  check-first rest = ap (λ (xs : List ℕ). weighted 0 xs % 65521) (take-append-le 510 (numbered k l) rest (omega (arith, numbered-length)))
+
+  pub sealed-pad : sealed k (pad l) ≡ blockOf k l
+  unfolding sealed blockOf pad
+  sealed-pad =
+      let full : 512 - length (blockOf k l) ≡ 0 = omega (arith, block-length) in
+      ap (λ (xs : List ℕ). written xs 510 (word (checkOf xs))) pad-numbered
+      ∙ ap (λ (y : ℕ). written (pad (numbered k l)) 510 (word y)) (check-first (replicate (512 - length (numbered k l)) 0))
+      ∙ pad-written (numbered k l) (word (checkOf (numbered k l))) 510 numbered-length (omega arith)
+      ∙ ap (λ (j : ℕ). (numbered k l ++ word (checkOf (numbered k l))) ++ replicate j 0) full
+      ∙ append-nil (numbered k l ++ word (checkOf (numbered k l)))
+
+-- the steps of the code, one behind the other
+pub sealed-steps : (k check : ℕ) (l₀ l₁ l₂ : List ℕ) → l₁ ≡ written l₀ 508 (word k) → check ≡ checkOf l₁ → l₂ ≡ written l₁ 510 (word check) → l₂ ≡ sealed k l₀
+unfolding sealed
+sealed-steps k check l₀ l₁ l₂ e₁ c e₂ =
+    e₂
+    ∙ ap (λ (y : ℕ). written l₁ 510 (word y)) c
+    ∙ ap (λ (l : List ℕ). written l 510 (word (checkOf l))) e₁
+
+pub record-steps : (circuit : Circuit) (at fate : ℕ) (l₀ l₁ l₂ l₃ l₄ : List ℕ) → at + 8 ≤ length l₀ → fate ≡ fateNumber (Served (circuit .way) (circuit .colour)) % 65536
+    → l₁ ≡ written l₀ at (word (circuit .serial)) → l₂ ≡ written l₁ (at + 2) (word (circuit .a)) → l₃ ≡ written l₂ (at + 4) (word (circuit .b)) → l₄ ≡ written l₃ (at + 6) (word fate)
+    → l₄ ≡ written l₀ at (recordBytes circuit)
+record-steps circuit at fate l₀ l₁ l₂ l₃ l₄ h f e₁ e₂ e₃ e₄ =
+    let k₂ : l₂ ≡ written l₀ at (word (circuit .serial) ++ word (circuit .a)) = e₂ ∙ ap (λ (l : List ℕ). written l (at + 2) (word (circuit .a))) e₁ ∙ written-append l₀ at (word (circuit .serial)) (word (circuit .a)) (omega arith) in
+    let k₃ : l₃ ≡ written l₀ at (word (circuit .serial) ++ word (circuit .a) ++ word (circuit .b)) = e₃ ∙ ap (λ (l : List ℕ). written l (at + 4) (word (circuit .b))) k₂ ∙ written-append l₀ at (word (circuit .serial) ++ word (circuit .a)) (word (circuit .b)) (omega arith) in
+    e₄
+    ∙ ap (λ (l : List ℕ). written l (at + 6) (word fate)) k₃
+    ∙ ap (λ (y : ℕ). written (written l₀ at (word (circuit .serial) ++ word (circuit .a) ++ word (circuit .b))) (at + 6) (word y)) f
+    ∙ ap (λ (v : List ℕ). written (written l₀ at (word (circuit .serial) ++ word (circuit .a) ++ word (circuit .b))) (at + 6) v) (word-cut (fateNumber (Served (circuit .way) (circuit .colour))))
+    ∙ written-append l₀ at (word (circuit .serial) ++ word (circuit .a) ++ word (circuit .b)) (word (fateNumber (Served (circuit .way) (circuit .colour)))) (omega arith)
+
+pub header-steps : (n w grants live : ℕ) (l₀ l₁ l₂ l₃ l₄ l₅ l₆ : List ℕ) → length l₀ ≡ 512 → l₁ ≡ replicate (length l₀) 0
+    → l₂ ≡ written l₁ 0 (word n) → l₃ ≡ written l₂ 2 (word w) → l₄ ≡ written l₃ 4 (word grants) → l₅ ≡ written l₄ 6 (word live) → l₆ ≡ sealed 0 l₅
+    → l₆ ≡ blockOf 0 (word n ++ (word w ++ (word grants ++ word live)))
+header-steps n w grants live l₀ l₁ l₂ l₃ l₄ l₅ l₆ h e₁ e₂ e₃ e₄ e₅ e₆ =
+    let k₁ : l₁ ≡ pad [] = e₁ ∙ ap (λ (j : ℕ). replicate j 0) h ∙ sym pad-none in
+    let k₂ : l₂ ≡ pad (word n) = e₂ ∙ ap (λ (l : List ℕ). written l 0 (word n)) k₁ ∙ pad-written [] (word n) 0 refl (omega arith) in
+    let k₃ : l₃ ≡ pad (word n ++ word w) = e₃ ∙ ap (λ (l : List ℕ). written l 2 (word w)) k₂ ∙ pad-written (word n) (word w) 2 refl (omega arith) in
+    let k₄ : l₄ ≡ pad (word n ++ word w ++ word grants) = e₄ ∙ ap (λ (l : List ℕ). written l 4 (word grants)) k₃ ∙ pad-written (word n ++ word w) (word grants) 4 refl (omega arith) in
+    let k₅ : l₅ ≡ pad (word n ++ word w ++ word grants ++ word live) = e₅ ∙ ap (λ (l : List ℕ). written l 6 (word live)) k₄ ∙ pad-written (word n ++ word w ++ word grants) (word live) 6 refl (omega arith) in
+    e₆ ∙ ap (sealed 0) k₅ ∙ sealed-pad 0 (word n ++ word w ++ word grants ++ word live) (omega arith)

@@ -1,0 +1,20 @@
+-- The laws that the functions' proofs cite, and the theorems whose statements stand in specs/:
+-- Promised (ReadsBack, LoadsOnlyForms, CaseT8, CaseT9), Changes (ChangeRefused).
+pub mod Lists
+pub mod Tables
+pub mod Checks
+pub mod BlockLaws
+pub mod RecordLaws
+pub mod StoreLaws
+pub mod ReadLaws
+pub mod Joins
+pub mod FitLaws
+pub mod LoadLaws
+pub mod BlockReading
+pub mod RoundTrip
+pub mod Conflicting
+pub mod Fitting
+pub mod Promised
+pub mod Bytes
+pub mod CheckChanges
+pub mod Changes

@@ -1,0 +1,130 @@
+//! The planner against a second one, on random and adversarial lists; two thirds against every plan on small rings.
+#[path = "reference.rs"]
+mod reference;
+
+use reference::{best_plan, chain_count, match_count, requests, Random};
+use ring_planner::{check, plan, Part};
+
+/// Plans a list and compares all that is said of the plan with the second planner.
+fn compare(n: u16, w: u16, ends: &[u16]) -> u16 {
+    let m = ends.len() / 2;
+    let list = requests(ends);
+    let mut table = vec![9999u16; m + 3];
+    let got = plan(n, w, ends, &mut table).unwrap_or_else(|r| panic!("refused {} on n {n} w {w} {ends:?}", r.number));
+    let chain = chain_count(w as usize, &list);
+    let matched = match_count(&list);
+    let paired = 2 * matched.min(w as usize);
+    assert_eq!((got.chain as usize, got.matched as usize, got.paired as usize), (chain, matched, paired), "n {n} w {w} {ends:?}");
+    assert_eq!(got.used, if paired > chain { Part::Pair } else { Part::Chain });
+    assert_eq!(&table[m..], &[9999, 9999, 9999], "entries past m stay");
+    let served = check(n, w, ends, &table).expect("the plan is feasible");
+    assert_eq!(served as usize, chain.max(paired));
+    served
+}
+
+fn random_list(random: &mut Random, n: u64, m: u64) -> Vec<u16> {
+    let mut ends = Vec::new();
+    for _ in 0..m {
+        let a = random.below(n);
+        let b = (a + 1 + random.below(n - 1)) % n;
+        ends.extend([a as u16, b as u16]);
+    }
+    ends
+}
+
+/// Bundles of parallel chords, each bundle crossing all the others.
+fn bundles(k: u64, size: u64, random: &mut Random) -> (u16, Vec<u16>) {
+    let n = (2 * k).max(3);
+    let mut list: Vec<(u16, u16)> = (0..k).flat_map(|i| (0..size).map(move |_| (i as u16, (i + k) as u16))).collect();
+    for i in (1..list.len()).rev() {
+        list.swap(i, random.below(i as u64 + 1) as usize);
+    }
+    (n as u16, list.into_iter().flat_map(|(a, b)| [a, b]).collect())
+}
+
+/// Nearly antipodal chords: most pairs cross, and the rest make odd cycles.
+fn antipodal(m: u64, jitter: u64, random: &mut Random) -> Vec<u16> {
+    let mut ends = Vec::new();
+    for _ in 0..m {
+        let a = random.below(256);
+        let b = (a + 128 + random.below(2 * jitter + 1) + 256 - jitter) % 256;
+        ends.extend([a as u16, if b == a { ((b + 1) % 256) as u16 } else { b as u16 }]);
+    }
+    ends
+}
+
+#[test]
+fn counts_agree_on_many_lists() {
+    let mut random = Random::new(1);
+    let mut lists = 0;
+    for round in 0..6000 {
+        let n = 3 + random.below(if round % 3 == 0 { 254 } else { 12 });
+        let m = random.below(if round % 50 == 0 { 160 } else { 24 });
+        let w = 1 + random.below(if round % 2 == 0 { 4 } else { 128 });
+        let ends = random_list(&mut random, n, m);
+        compare(n as u16, w as u16, &ends);
+        lists += 1;
+    }
+    for size in [1, 3, 5, 7] {
+        for k in [1, 2, 3, 8, 17, 40, 73, 128] {
+            if k * size <= 512 {
+                let (n, ends) = bundles(k, size, &mut random);
+                compare(n, 128, &ends);
+                lists += 1;
+            }
+        }
+    }
+    for jitter in [1, 2, 4, 8] {
+        for m in [64, 200, 512] {
+            let ends = antipodal(m, jitter, &mut random);
+            compare(256, 128, &ends);
+            lists += 1;
+        }
+    }
+    for m in [511, 512] {
+        let ends = random_list(&mut random, 256, m);
+        compare(256, 128, &ends);
+        compare(256, 3, &ends);
+        lists += 2;
+    }
+    println!("{lists} lists planned alike");
+}
+
+#[test]
+fn two_thirds_of_the_best_plan_on_small_rings() {
+    let mut random = Random::new(2);
+    let (mut lists, mut tight) = (0, 0);
+    for _ in 0..1500 {
+        let n = 3 + random.below(4);
+        let m = random.below(6);
+        let w = 1 + random.below(2);
+        let ends = random_list(&mut random, n, m);
+        let served = compare(n as u16, w as u16, &ends) as usize;
+        let best = best_plan(n as usize, w as usize, &requests(&ends));
+        assert!(2 * best <= 3 * served, "n {n} w {w} {ends:?}: {served} of {best}");
+        lists += 1;
+        tight += usize::from(2 * best == 3 * served && best > 0);
+    }
+    println!("{lists} lists against every plan, the bound met exactly on {tight}");
+}
+
+#[test]
+fn refusals_in_their_order() {
+    let number = |n, w, ends: &[u16], entries: usize| {
+        let mut table = vec![7u16; entries];
+        let refused = plan(n, w, ends, &mut table).err();
+        assert!(refused.is_none() || table.iter().all(|&x| x == 7), "a refused call changes nothing");
+        refused.map(|r| (r.number, r.values))
+    };
+    assert_eq!(number(2, 0, &[9], 0).unwrap().0, 1);
+    assert_eq!(number(257, 1, &[], 0).unwrap().0, 1);
+    assert_eq!(number(3, 0, &[9], 0).unwrap().0, 2);
+    assert_eq!(number(256, 129, &[], 0).unwrap().0, 2);
+    assert_eq!(number(3, 1, &[9], 0).unwrap().0, 3);
+    assert_eq!(number(3, 1, &[0, 1].repeat(513), 600).unwrap().0, 3);
+    assert_eq!(number(3, 1, &[0, 1, 3, 3, 1, 1], 9), Some((4, [1, 0])));
+    assert_eq!(number(3, 1, &[0, 1, 0, 2, 1, 1, 5, 0], 9), Some((5, [2, 0])));
+    assert_eq!(number(3, 1, &[0, 1, 0, 2], 1).unwrap().0, 6);
+    assert_eq!(number(3, 1, &[], 0), None);
+    assert_eq!(number(256, 128, &[0, 255].repeat(512), 512), None);
+}
