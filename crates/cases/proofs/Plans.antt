@@ -1,27 +1,24 @@
 -- Cases T1 to T6: the chain parts by computation, the match counts by a matching of that size and a bound.
-use Prim.Native.Nat.{ℕ, zero, suc, _+_, _*_, _≤_, _<_, min}
+use Prim.Native.Nat.{ℕ, zero, suc, _*_, _<_, min}
 use mathlib.Core.Path.{_≡_, refl, sym, ap, _∙_}
-use mathlib.Core.Bool.{Bool, true, false, not, _&&_, _||_}
+use mathlib.Core.Bool.{true}
 use mathlib.Core.List.{List, [], _∷_}
 use native.Mathlib.Omega.{arith}
-use lib.Dec.{eqb, ltb}
-use lib.ListN.{length, getD, replicate}
-use Rattle.ring.specs.declared.requests.Request.{Request}
-use Rattle.ring.specs.declared.fates.Fate.{Fate}
+use lib.Dec.{ltb}
+use lib.ListN.{length, replicate}
 use Rattle.ring.specs.declared.fates.Fate.the-variants.{Blocked, Served}
 use Rattle.ring.specs.declared.ways.Way.the-variants.{Plain, Seam}
 use Rattle.ring.specs.Requests.{request, requestsOf}
-use Rattle.ring.specs.Plans.{served, Feasible}
+use Rattle.ring.specs.Plans.{served}
 use Rattle.ring.specs.Chords.{inside, shareEnd, crosses, compatible}
-use Rattle.ring.specs.Matchings.{Pair, pair, IsMatching, IsMaximum}
+use Rattle.ring.specs.Matchings.{Pair, IsMatching, IsMaximum}
 use Rattle.chain.specs.Order.{order}
 use Rattle.chain.specs.Rule.{pick}
 use Rattle.chain.specs.ChainPart.{latestAfter, chainFrom, chainPart}
 use Rattle.planner.specs.PairPart.{pairPart, ByLower}
 use Rattle.planner.specs.Plan.{better}
 use Rattle.planner.specs.Ceiling.{MatchBound}
-use Rattle.planner.proofs.PairLaws.{pair-part-serves}
-use Rattle.planner.proofs.PlanLaws.{plan-pair, plan-chain}
+use Rattle.planner.proofs.PlanLaws.{plan-pair}
 use Rattle.planner.proofs.MateLaws.{matching-size}
 use Rattle.ring.specs.Ways.{uses, someLink, shareLink}
 use Rattle.ring.specs.Fates.{fateOf, fateNumber}
@@ -31,7 +28,7 @@ use Rattle.chain.proofs.Cases.{t2-fates, t4-fates}
 use Rattle.ring.specs.Admission.{ringVerdict, requestVerdict, requestVerdicts, listVerdict, callVerdict}
 use Rattle.checker.specs.Check.{firstGround, numberVerdict, numberVerdicts, conflicting, pairVerdict, laterVerdict, pairVerdicts, tableAnswer, checkAnswer}
 use Rattle.checker.proofs.DecisionLaws.{checker-decides}
-use Rattle.cases.specs.Table.{line2, endsT1, threeServed, T1, endsT2, T2, endsT3, T3, endsT4, T4, endsT5, T5, T6}
+use Rattle.cases.specs.Table.{line2, endsT1, T1, endsT2, T2, endsT3, T3, endsT4, T4, endsT5, T5, T6}
 use Rattle.cases.proofs.Sizes.{matching-if, Computed, size, paired, counts-are, chain-is-plan}
 
 abbrev pairing : ℕ → ℕ → Pair

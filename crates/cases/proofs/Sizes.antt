@@ -1,5 +1,5 @@
 -- The size of a maximum matching, from one matching of that size and a bound for all; and the counts that follow.
-use Prim.Native.Nat.{ℕ, zero, suc, _+_, _*_, _≤_, _<_, min}
+use Prim.Native.Nat.{ℕ, zero, suc, _*_, _≤_, _<_, min}
 use mathlib.Core.Path.{_≡_, refl, sym, ap, _∙_}
 use mathlib.Core.Bool.{Bool, true, false, not, _&&_, _||_}
 use mathlib.Core.List.{List, [], _∷_}
@@ -16,7 +16,7 @@ use Rattle.ring.specs.Matchings.{Pair, pair, endsOf, NoTwice, IsMatching, IsMax
 use Rattle.ring.proofs.Cases.{eqb-refl, impossible}
 use Rattle.ring.proofs.Counting.{has}
 use Rattle.chain.specs.ChainPart.{chainPart}
-use Rattle.planner.specs.PairPart.{pairPart, ByLower}
+use Rattle.planner.specs.PairPart.{pairPart}
 use Rattle.planner.specs.Plan.{better, partUsed, planOf, summary}
 use Rattle.planner.specs.Ceiling.{MatchBound}
 use Rattle.planner.proofs.PairLaws.{pair-part-serves}

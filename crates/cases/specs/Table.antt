@@ -2,7 +2,6 @@
 use Prim.Native.Nat.{ℕ, _*_}
 use mathlib.Core.Path.{_≡_}
 use mathlib.Core.List.{List, [], _∷_, map}
-use Rattle.ring.specs.declared.requests.Request.{Request}
 use Rattle.ring.specs.declared.fates.Fate.{Fate}
 use Rattle.ring.specs.declared.fates.Fate.the-variants.{Blocked, Served}
 use Rattle.ring.specs.declared.ways.Way.the-variants.{Plain, Seam}
@@ -24,6 +23,7 @@ use Rattle.book.specs.declared.grants.GrantAnswer.the-variants as grant
 use Rattle.book.specs.declared.removals.RemoveAnswer.the-variants as remove
 use Rattle.book.specs.declared.orders.ShowAnswer.the-variants as show
 use Rattle.book.specs.Books.{opened}
+use Rattle.stored.specs.Promises.{CaseT8, CaseT9}
 use Rattle.book.specs.History.{Grant, Remove, Show, GrantAnswered, RemoveAnswered, ShowAnswered, history}
 
 -- line 2 of the planning program: "chain .. match .. pair .. used .."
@@ -124,4 +124,7 @@ pub record Table : Type 0 where
   pub t5 : T5
   pub t6 : T6
   pub t7 : T7
+  -- T8 and T9 stand with the stored form
+  pub t8 : CaseT8
+  pub t9 : CaseT9
   pub t10 : T10

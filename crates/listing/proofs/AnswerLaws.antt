@@ -1,7 +1,7 @@
 -- The output as a whole.
 use Prim.Native.Nat.{ℕ, _+_, _-_, _/_, _≤_, _<_}
 use mathlib.Core.Path.{_≡_, refl, sym, _∙_, ap}
-use mathlib.Core.List.{List, [], _++_}
+use mathlib.Core.List.{List, _++_}
 use native.Mathlib.Omega.{arith}
 use lib.ListN.{length, take, drop, replicate, length-append, length-drop}
 use Rattle.ring.specs.declared.refusals.Refusal.{Refusal}
@@ -9,16 +9,15 @@ use Rattle.ring.specs.declared.refusals.Verdict.{Verdict}
 use Rattle.ring.specs.declared.refusals.Verdict.the-variants as verdict
 use Rattle.ring.specs.Plans.{fatesOf}
 use Rattle.ring.specs.Refusals.{numberOf}
-use Rattle.ring.specs.Requests.{requestsOf}
 use Rattle.ring.specs.Admission.{callVerdict}
 use Rattle.ring.proofs.AdmissionLaws.{call-limits}
 use Rattle.planner.specs.declared.answers.Summary.{Summary}
 use Rattle.planner.specs.declared.answers.PlanAnswer.{PlanAnswer}
 use Rattle.planner.specs.declared.answers.PlanAnswer.the-variants as answer
 use Rattle.planner.specs.Promise.{PlanPromise}
-use Rattle.listing.specs.Reading.{Reading, unreadable, readable, readingOf}
+use Rattle.listing.specs.Reading.{unreadable, readable, readingOf}
 use Rattle.listing.specs.Layout.{planText, refusedText, answerText}
-use Rattle.listing.specs.Promise.{PlanOutput, OutputFor, Printed, PlanPrinted, AnswerPromise}
+use Rattle.listing.specs.Promise.{PlanOutput, Printed, AnswerPromise}
 use Rattle.listing.specs.Positions.{readingIn, ReadingRead}
 use Rattle.listing.specs.declared.reading.ReadingAt.{ReadingAt}
 use Rattle.listing.specs.declared.reading.ReadingAt.the-variants as readingAt
@@ -50,7 +49,7 @@ planned-few {n} {w} {ends} {before} {after} {r} {counts} s e = by (callVerdict n
 -- the output of plan, printed
 pub printed-refused : {n w : ℕ} {ends table out after : List ℕ} {r : PlanAnswer} {ground : Refusal} {number size : ℕ}
     → PlanPromise n w ends (replicate 512 0) table r → r ≡ answer.Refused ground → number ≡ numberOf ground
-    → Wrote out 0 (refusedText number) after size → PlanPrinted n w ends out after size
+    → Wrote out 0 (refusedText number) after size → Printed (PlanOutput n w ends) out after size
 unfolding answerText
 printed-refused {n} {w} {ends} {table} {out} {after} {r} {ground} {number} {size} s e q t =
     let front = wrote-front t in
@@ -58,7 +57,7 @@ printed-refused {n} {w} {ends} {table} {out} {after} {r} {ground} {number} {size
 
 pub printed-planned : {n w : ℕ} {ends table out after : List ℕ} {r : PlanAnswer} {counts : Summary} {size : ℕ}
     → PlanPromise n w ends (replicate 512 0) table r → r ≡ answer.Planned counts
-    → Wrote out 0 (planText n w (length ends / 2) counts (fatesOf (take (length ends / 2) table))) after size → PlanPrinted n w ends out after size
+    → Wrote out 0 (planText n w (length ends / 2) counts (fatesOf (take (length ends / 2) table))) after size → Printed (PlanOutput n w ends) out after size
 unfolding answerText
 printed-planned {n} {w} {ends} {table} {out} {after} {r} {counts} {size} s e t =
     let front = wrote-front t in
@@ -89,7 +88,7 @@ answer-unreadable {text} {buffer} {out} {after} {r} {number} {size} h s e q t =
     }
 
 pub answer-readable : {text buffer out after : List ℕ} {r : ReadingAt} {n w count size : ℕ} → 8192 ≤ length out → ReadingRead text buffer r
-    → r ≡ readingAt.Readable n w count → PlanPrinted n w (take count buffer) out after size → AnswerPromise text out after size
+    → r ≡ readingAt.Readable n w count → Printed (PlanOutput n w (take count buffer)) out after size → AnswerPromise text out after size
 answer-readable {text} {buffer} {out} {after} {r} {n} {w} {count} {size} h s e t =
     let reading : readingOf text ≡ readable n w (take count buffer) = sym (s .same) ∙ ap (readingIn buffer) e in
     record {

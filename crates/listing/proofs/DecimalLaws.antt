@@ -1,13 +1,11 @@
 -- Decimal digits.
 use Prim.Native.Nat.{ℕ, zero, suc, _+_, _*_, _/_, _%_, _≤_, _<_}
 use mathlib.Core.Path.{_≡_, refl, sym, _∙_, ap}
-use mathlib.Core.Bool.{Bool, true, false, cond}
 use mathlib.Core.List.{List, [], _∷_, _++_}
 use native.Mathlib.Omega.{arith}
-use lib.Dec.{ltb}
 use lib.ListN.{length, length-append}
 use borrow.Author.Tests.{lt-ltb, le-ltb}
-use Rattle.ring.proofs.Cases.{Compare, less, not-less, compare}
+use Rattle.ring.proofs.Cases.{less, not-less, compare}
 use Rattle.listing.specs.Decimal.{digits, decimal}
 
 -- the numbers of so many digits are below this
@@ -16,14 +14,14 @@ tens zero = 1
 tens (suc k) = 10 * tens k
 
 -- the digits of a number from ten on: those of its tenth, and its last
-digits-more : (k n : ℕ) → 10 ≤ n → digits (suc k) n ≡ digits k (n / 10) ++ ((48 + n % 10) ∷ [])
+pub digits-more : (k n : ℕ) → 10 ≤ n → digits (suc k) n ≡ digits k (n / 10) ++ ((48 + n % 10) ∷ [])
 digits-more k n h = rw (le-ltb n 10 h) refl
 
-digits-one : (k n : ℕ) → n < 10 → digits (suc k) n ≡ (48 + n) ∷ []
+pub digits-one : (k n : ℕ) → n < 10 → digits (suc k) n ≡ (48 + n) ∷ []
 digits-one k n h = rw (lt-ltb n 10 h) refl
 
 -- a number has at most so many digits
-digits-short : (k n : ℕ) → length (digits k n) ≤ k
+pub digits-short : (k n : ℕ) → length (digits k n) ≤ k
 digits-short zero n = omega arith
 digits-short (suc k) n = elim (compare n 10) [
   | less h t ↦ rw (digits-one k n h) (omega arith)

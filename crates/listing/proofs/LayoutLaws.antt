@@ -1,6 +1,6 @@
 -- The lengths of printed lines.
 use Prim.Native.Nat.{ℕ, suc, _+_, _≤_, _<_}
-use mathlib.Core.Path.{_≡_, refl, sym, _∙_, ap}
+use mathlib.Core.Path.{_≡_, refl, _∙_, ap}
 use mathlib.Core.List.{List, [], _∷_, _++_, append-assoc, append-nil}
 use native.Mathlib.Omega.{arith}
 use native.Mathlib.Numerals.{add-one, unary-clauses}
@@ -15,7 +15,6 @@ use Rattle.ring.specs.Plans.{fatesOf}
 use Rattle.planner.specs.declared.answers.Part.{Part}
 use Rattle.planner.specs.declared.answers.Part.the-variants as part
 use Rattle.planner.specs.declared.answers.Summary.{Summary}
-use Rattle.listing.specs.Decimal.{decimal}
 use Rattle.listing.specs.Layout.{labelled, planLine, partEnding, countsLine, wayEnding, fateEnding, fateLine, fateLines}
 use Rattle.listing.specs.Writing.{Wrote}
 use Rattle.listing.proofs.DecimalLaws.{decimal-short}

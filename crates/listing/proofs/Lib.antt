@@ -5,3 +5,5 @@ pub mod ReadingLaws
 pub mod LineLaws
 pub mod LayoutLaws
 pub mod AnswerLaws
+pub mod ReadBack
+pub mod Example

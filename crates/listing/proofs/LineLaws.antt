@@ -1,16 +1,14 @@
 -- The lines of a text, and the whole text.
-use Prim.Native.Nat.{ℕ, zero, suc, _+_, _*_, _-_, _≤_, _<_}
+use Prim.Native.Nat.{ℕ, zero, suc, _+_, _-_, _≤_, _<_}
 use mathlib.Core.Path.{_≡_, refl, sym, _∙_, ap}
-use mathlib.Core.Bool.{true, false, cond}
 use mathlib.Core.List.{List, [], _∷_, _++_, append-assoc}
 use native.Mathlib.Omega.{arith}
 use native.Mathlib.Numerals.{add-one, unary-clauses}
-use lib.Dec.{ltb}
-use lib.ListN.{length, getD, take, drop, set, length-set, drop-of-length-le}
+use lib.ListN.{length, take, drop, set, length-set, drop-of-length-le}
 use lib.Seq.{take-suc-set}
 use borrow.Author.Tests.{lt-ltb, le-ltb}
-use Rattle.listing.specs.Reading.{line, Line, broken, two, onLine, linesFrom, Lines, unfit, all, heading, Heading, none, numbers, withRing, formOf, readingOf}
-use Rattle.listing.specs.Positions.{lineIn, headingIn, linesIn, LineRead, HeadingRead, LinesRead, ReadingRead}
+use Rattle.listing.specs.Reading.{line, broken, two, onLine, linesFrom, unfit, all, formOf, readingOf}
+use Rattle.listing.specs.Positions.{lineIn, linesIn, LineRead, HeadingRead, LinesRead, ReadingRead}
 use Rattle.listing.specs.declared.reading.LineAt.{LineAt}
 use Rattle.listing.specs.declared.reading.LineAt.the-variants as lineAt
 use Rattle.listing.specs.declared.reading.LinesAt.{LinesAt}

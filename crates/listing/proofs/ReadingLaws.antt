@@ -2,15 +2,15 @@
 use Prim.Native.Nat.{ℕ, zero, suc, _+_, _*_, _-_, _≤_, _<_}
 use mathlib.Core.Path.{_≡_, refl, sym, _∙_, ap}
 use mathlib.Core.Bool.{Bool, true, false, cond, _&&_}
-use mathlib.Core.List.{List, [], _∷_, _++_}
+use mathlib.Core.List.{List, _∷_}
 use native.Mathlib.Omega.{arith}
 use native.Mathlib.Numerals.{add-one, unary-clauses}
 use lib.Dec.{eqb, leb, ltb}
 use lib.ListN.{length, getD, drop, drop-of-length-le}
 use lib.Seq.{drop-cons}
 use borrow.Author.Tests.{ltb-true, leb-true}
-use Rattle.ring.proofs.Cases.{Is, yes, no, is, impossible}
-use Rattle.listing.specs.Reading.{Field, missing, found, oneMore, closes, fieldFrom, field, space, lineFeed, line, heading, Line, broken, two, Heading, none, numbers}
+use Rattle.ring.proofs.Cases.{yes, no, is, impossible}
+use Rattle.listing.specs.Reading.{missing, found, oneMore, closes, fieldFrom, field, space, lineFeed, line, heading}
 use Rattle.listing.specs.Positions.{fieldIn, FieldFits, FieldRead, LineRead, HeadingRead}
 use Rattle.listing.specs.declared.reading.FieldAt.{FieldAt}
 use Rattle.listing.specs.declared.reading.FieldAt.the-variants as fieldAt
@@ -19,7 +19,7 @@ use Rattle.listing.specs.declared.reading.HeadingAt.the-variants as head
 use Rattle.listing.proofs.DecimalLaws.{tens}
 
 -- what a test of two or three parts says
-and-true : (a b : Bool) → (a && b) ≡ true → (a ≡ true) × (b ≡ true)
+pub and-true : (a b : Bool) → (a && b) ≡ true → (a ≡ true) × (b ≡ true)
 and-true true b e = (refl, e)
 and-true false b e = impossible (sym e)
 

@@ -45,18 +45,22 @@ abbrev pub FieldFits : ℕ → ℕ → FieldAt → Type 0
 FieldFits least most fieldAt.Missing = Unit
 FieldFits least most (fieldAt.Found value next) = (least ≤ next) × (next ≤ most)
 
+-- the same of a line
 abbrev pub LineFits : ℕ → ℕ → LineAt → Type 0
 LineFits least most lineAt.Broken = Unit
 LineFits least most (lineAt.Ends x y next) = (least ≤ next) × (next ≤ most)
 
+-- the first line ends within the text
 abbrev pub HeadingFits : ℕ → HeadingAt → Type 0
 HeadingFits most headingAt.Missing = Unit
 HeadingFits most (headingAt.Numbers n w m next) = next ≤ most
 
+-- no more ends than a text of 8,192 bytes can hold
 abbrev pub LinesFit : LinesAt → Type 0
 LinesFit linesAt.Unfit = Unit
 LinesFit (linesAt.All count) = count ≤ 4096
 
+-- the same of a whole text
 abbrev pub ReadingFits : ReadingAt → Type 0
 ReadingFits readingAt.Unreadable = Unit
 ReadingFits (readingAt.Readable n w count) = count ≤ 4096
@@ -66,10 +70,12 @@ pub record FieldRead (close : ℕ) (text : List ℕ) (at : ℕ) (result : FieldA
   pub same : fieldIn text result ≡ field close (drop at text)
   pub fits : FieldFits (at + 2) (length text) result
 
+-- a line, read at a position
 pub record LineRead (text : List ℕ) (at : ℕ) (result : LineAt) : Type 0 where
   pub same : lineIn text result ≡ line (drop at text)
   pub fits : LineFits (at + 4) (length text) result
 
+-- the first line, read
 pub record HeadingRead (text : List ℕ) (result : HeadingAt) : Type 0 where
   pub same : headingIn text result ≡ heading text
   pub fits : HeadingFits (length text) result
@@ -80,10 +86,12 @@ pub record LinesFitIn (text : List ℕ) (at : ℕ) (buffer : List ℕ) : Type 0 
   pub short : length text ≤ 8192
   pub room : 4096 ≤ length buffer
 
+-- m lines from a position on, read into a buffer
 pub record LinesRead (text : List ℕ) (at m : ℕ) (buffer : List ℕ) (result : LinesAt) : Type 0 where
   pub same : linesIn buffer result ≡ linesFrom [] m (drop at text)
   pub fits : LinesFit result
 
+-- the whole text, its ends read into a buffer
 pub record ReadingRead (text buffer : List ℕ) (result : ReadingAt) : Type 0 where
   pub same : readingIn buffer result ≡ readingOf text
   pub fits : ReadingFits result

@@ -20,21 +20,14 @@ abbrev pub OutputFor : Reading → List ℕ → Type 0
 OutputFor unreadable output = output ≡ refusedText 21
 OutputFor (readable n w ends) output = PlanOutput n w ends output
 
--- the buffer begins with the whole output, whose length is given, and the rest stays
-pub record Printed (text before after : List ℕ) (size : ℕ) : Type 0 where
+-- the buffer begins with an output of the right kind, whole; its length is given, and the rest stays
+pub record Printed (Right : List ℕ → Type 0) (before after : List ℕ) (size : ℕ) : Type 0 where
   pub output : List ℕ
-  pub right : OutputFor (readingOf text) output
+  pub right : Right output
   pub whole : size ≡ length output
   pub buffer : after ≡ output ++ drop (length output) before
 
 -- the promise: no output is longer than 8,192 bytes, so that a buffer of that length gets it whole; a shorter one gets nothing
 pub record AnswerPromise (text before after : List ℕ) (size : ℕ) : Type 0 where
   pub short : length before < 8192 → (size ≡ 0) × (after ≡ before)
-  pub printed : 8192 ≤ length before → Printed text before after size
-
--- the buffer begins with the output of plan for these numbers
-pub record PlanPrinted (n w : ℕ) (ends before after : List ℕ) (size : ℕ) : Type 0 where
-  pub output : List ℕ
-  pub right : PlanOutput n w ends output
-  pub whole : size ≡ length output
-  pub buffer : after ≡ output ++ drop (length output) before
+  pub printed : 8192 ≤ length before → Printed (OutputFor (readingOf text)) before after size

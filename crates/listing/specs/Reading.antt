@@ -32,10 +32,11 @@ fieldFrom close count value (b ∷ text) =
     cond (oneMore b count) (fieldFrom close (count + 1) (10 * value + (b - 48)) text)
     (cond (closes close b count value) (found value text) missing)
 
+-- the number at the start of a text, closed by this byte
 unfoldable pub field : ℕ → List ℕ → Field
 field close text = fieldFrom close 0 0 text
 
--- what follows from a number and the text behind it, or this where there is none
+-- what follows from a number and the text behind it, and what where there is none
 abbrev pub onField : {A : Type 0} → Field → A → (ℕ → List ℕ → A) → A
 onField missing otherwise next = otherwise
 onField (found value text) otherwise next = next value text
@@ -45,10 +46,12 @@ pub data Line : Type 0 where
   broken : Line
   two : ℕ → ℕ → List ℕ → Line
 
+-- "lines of two ends, .. one space between, every line closed by a line feed"
 unfoldable pub line : List ℕ → Line
 line text =
     onField (field space text) broken (λ x behind. onField (field lineFeed behind) broken (λ y rest. two x y rest))
 
+-- what follows from a line and the text behind it, and what where there is none
 abbrev pub onLine : {A : Type 0} → Line → A → (ℕ → ℕ → List ℕ → A) → A
 onLine broken otherwise next = otherwise
 onLine (two x y text) otherwise next = next x y text
@@ -69,6 +72,7 @@ pub data Heading : Type 0 where
   none : Heading
   numbers : ℕ → ℕ → ℕ → List ℕ → Heading
 
+-- its three numbers, "one space between", and its line feed
 unfoldable pub heading : List ℕ → Heading
 heading text =
     onField (field space text) none (λ n behind. onField (field space behind) none (λ w rest. onField (field lineFeed rest) none (λ m lines. numbers n w m lines)))
@@ -78,10 +82,12 @@ pub data Reading : Type 0 where
   unreadable : Reading
   readable : ℕ → ℕ → List ℕ → Reading
 
+-- n and w with the ends of the lines
 abbrev pub withRing : ℕ → ℕ → Lines → Reading
 withRing n w unfit = unreadable
 withRing n w (all ends) = readable n w ends
 
+-- the first line with the m lines behind it
 abbrev pub behindHeading : Heading → Reading
 behindHeading none = unreadable
 behindHeading (numbers n w m lines) = withRing n w (linesFrom [] m lines)

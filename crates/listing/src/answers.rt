@@ -9,12 +9,12 @@ use ring::Refusal;
 use ring::refusals::number;
 ghost use Prim.Native.Nat.{_≤_};
 ghost use lib.ListN.{length};
-ghost use Rattle.listing.specs.Promise.{PlanPrinted, AnswerPromise};
+ghost use Rattle.listing.specs.Promise.{PlanOutput, Printed, AnswerPromise};
 
 // The output of plan for n, w and the ends.
 fn put_answer(n: u16, w: u16, ends: &[u16], out: &mut [u8]) -> usize
     requires { ⌜ 8192 ≤ length (now out) ⌝ }
-    ensures { λ size. ⌜ PlanPrinted n w (now (ends .entry)) (now (out .entry)) (now (out .exit)) size ⌝ }
+    ensures { λ size. ⌜ Printed (PlanOutput n w (now (ends .entry))) (now (out .entry)) (now (out .exit)) size ⌝ }
 {
     let mut table = [0u16; 512];
     let answer = plan(n, w, ends, &mut table);

@@ -74,7 +74,7 @@ fn closing(close: u8, byte: u8, count: usize, value: u32, next: usize) -> FieldA
 }
 
 // The number at a position that the byte closes.
-pub fn field(text: &[u8], at: usize, close: u8) -> FieldAt
+fn field(text: &[u8], at: usize, close: u8) -> FieldAt
     requires { ⌜ at ≤ length (now text) ⌝ }
     ensures { λ r. ⌜ FieldRead close (now (text .entry)) at r ⌝ }
 {
@@ -93,7 +93,7 @@ pub fn field(text: &[u8], at: usize, close: u8) -> FieldAt
 }
 
 // The line of two ends at a position.
-pub fn line(text: &[u8], at: usize) -> LineAt
+fn line(text: &[u8], at: usize) -> LineAt
     requires { ⌜ at ≤ length (now text) ⌝ }
     ensures { λ r. ⌜ LineRead (now (text .entry)) at r ⌝ }
 {
@@ -109,7 +109,7 @@ pub fn line(text: &[u8], at: usize) -> LineAt
 }
 
 // The first line.
-pub fn heading(text: &[u8]) -> HeadingAt
+fn heading(text: &[u8]) -> HeadingAt
     ensures { λ r. ⌜ HeadingRead (now (text .entry)) r ⌝ }
 {
     let first = field(text, 0, b' ');
@@ -128,7 +128,7 @@ pub fn heading(text: &[u8]) -> HeadingAt
 }
 
 // m lines of two ends from a position on, and nothing behind them: the ends go into the buffer.
-pub fn request_lines(text: &[u8], at: usize, m: u16, buffer: &mut [u16]) -> LinesAt
+fn request_lines(text: &[u8], at: usize, m: u16, buffer: &mut [u16]) -> LinesAt
     requires { ⌜ LinesFitIn (now text) at (now buffer) ⌝ }
     ensures { λ r. ⌜ LinesRead (now (text .entry)) at m (now (buffer .exit)) r ⌝ }
 {

@@ -9,7 +9,8 @@ use Rattle.ring.proofs.WayLaws.{Shared, share-found, found-share, sharing-means
 use Rattle.book.specs.declared.circuits.Circuit.{Circuit}
 use Rattle.book.specs.Circuits.{endsOf, holds}
 use Rattle.book.specs.Conflicts.{conflicts}
-use Rattle.stored.proofs.Joins.{and-true, true-and, never, contrary}
+use Rattle.book.proofs.ConflictLaws.{and-true, true-and}
+use Rattle.stored.proofs.Joins.{never, contrary}
 
 module _ (n : ℕ) (c d : Circuit) (h₁ : c .a < c .b) (h₂ : c .b < n) (k₁ : d .a < d .b) (k₂ : d .b < n) where
   same-share : sharing (d .way) (endsOf d) (c .way) (endsOf c) ≡ shareLink n (d .way) (endsOf d) (c .way) (endsOf c)

@@ -13,9 +13,10 @@ use Rattle.book.specs.declared.books.Book.{Book}
 use Rattle.book.specs.Circuits.{vacant, circuit, endsOf}
 use Rattle.book.specs.Books.{liveOf, bookOf, Valid, ValidCircuits}
 use Rattle.book.specs.Conflicts.{conflicts, conflictIn}
+use Rattle.book.proofs.ConflictLaws.{and-true, true-and}
 use Rattle.book.proofs.CircuitLists.{Place, some-place, place-some}
 use Rattle.stored.specs.Validity.{ringFits, circuitFits, serialFits, mayFollow, lastSerial, circuitsFit, bookFits}
-use Rattle.stored.proofs.Joins.{and-true, true-and, never, contrary}
+use Rattle.stored.proofs.Joins.{never, contrary}
 use Rattle.stored.proofs.Conflicting.{conflict-links, conflict-none}
 
 module _ (b : Book) where

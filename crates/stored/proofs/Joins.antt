@@ -5,14 +5,6 @@ use mathlib.Core.Bool.{Bool, true, false, _&&_, true≢false}
 pub joined : {x y z p q : Bool} → x ≡ p → y ≡ q → z ≡ (x && y) → z ≡ (p && q)
 joined {x} {y} {z} {p} {q} e f h = h ∙ ap (λ (t : Bool). t && y) e ∙ ap (λ (t : Bool). p && t) f
 
-pub and-true : (p q : Bool) → (p && q) ≡ true → (p ≡ true) × (q ≡ true)
-and-true true q e = (refl, e)
-and-true false q e = absurd (true≢false (sym e))
-
-pub true-and : (p q : Bool) → p ≡ true → q ≡ true → (p && q) ≡ true
-true-and true q e h = h
-true-and false q e h = absurd (true≢false (sym e))
-
 -- a test that is not true
 pub never : (t : Bool) → (t ≡ true → ⊥) → t ≡ false
 never true h = absurd (h refl)

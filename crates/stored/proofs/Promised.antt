@@ -11,6 +11,7 @@ use Rattle.ring.proofs.FateLaws.{number-within}
 use Rattle.book.specs.declared.books.Book.{Book}
 use Rattle.book.specs.Circuits.{circuit}
 use Rattle.book.specs.Books.{liveOf, bookOf, Valid}
+use Rattle.book.proofs.ConflictLaws.{and-true, true-and}
 use Rattle.book.proofs.Forms.{live-form}
 use Rattle.stored.specs.declared.loads.LoadAnswer.the-variants as answer
 use Rattle.stored.specs.declared.loads.Loaded.{Loaded}
@@ -21,7 +22,6 @@ use Rattle.stored.specs.Reading.{partOf, blocksRight, circuitsIn, bookIn
 use Rattle.stored.specs.Validity.{bookFits}
 use Rattle.stored.specs.Loading.{lengthWrong, sameBytes, formRight}
 use Rattle.stored.specs.Promises.{ReadsBack, IsForm, LoadsOnlyForms, CaseT8, CaseT9}
-use Rattle.stored.proofs.Joins.{and-true, true-and}
 use Rattle.stored.proofs.StoreLaws.{form-length}
 use Rattle.stored.proofs.ReadLaws.{circuits-few}
 use Rattle.stored.proofs.LoadLaws.{same-refl, same-equal, load-good, load-told}

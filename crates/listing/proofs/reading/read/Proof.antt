@@ -5,7 +5,7 @@ use Rattle.listing.proofs.reading.read.Statement.{statement}
 use Rattle.listing.proofs.reading.read.Tie as tie
 
 returns : tie.Need-returns
-returns c = read-long _ _ (c .if1 .taken)
+returns c = read-long _ _ (omega arith)
 
 heading-requires : tie.Need-heading-requires
 heading-requires c κs = search needs

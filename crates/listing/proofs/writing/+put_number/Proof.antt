@@ -62,7 +62,8 @@ put-number-returns : (t : ℕ) → put-number-lts.Need-returns (
   put-number.Post,
 ) (put-number-at t) put-number.Post
 put-number-returns t c =
-    wrote-digit (c .before .before .before .before .before .if1 .taken) (c .before .before .before .digit .ensures) (c .before .before .put-byte .ensures)
+    let small : c .before .before .before .before .before .before .before .args .n < 10 = omega arith in
+    wrote-digit small (c .before .before .before .digit .ensures) (c .before .before .put-byte .ensures)
 
 put-number-put-number-requires : (t : ℕ) → put-number-lts.Need-put-number-requires (
   digit-reads.Asked,

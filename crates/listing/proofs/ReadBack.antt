@@ -1,0 +1,221 @@
+-- What is printed reads back as itself: numbers, lines and whole texts.
+use Prim.Native.Nat.{ℕ, zero, suc, _+_, _*_, _-_, _/_, _%_, _≤_, _<_}
+use mathlib.Core.Path.{_≡_, refl, sym, _∙_, ap}
+use mathlib.Core.Bool.{_&&_}
+use mathlib.Core.List.{List, [], _∷_, _++_, append-assoc, append-nil}
+use native.Mathlib.Omega.{arith}
+use lib.Dec.{eqb, leb, ltb}
+use lib.ListN.{length, length-append}
+use borrow.Author.Tests.{le-leb, lt-leb, lt-ltb, eq-eqb, leb-true}
+use Rattle.ring.proofs.Cases.{less, not-less, compare, yes, no, is}
+use Rattle.listing.specs.Decimal.{digits, decimal}
+use Rattle.listing.specs.Reading.{Field, missing, found, onField, oneMore, closes, fieldFrom, field, space, lineFeed, Line, broken, two, onLine, line, Lines, unfit, all, linesFrom, Heading, none, numbers, heading, withRing, behindHeading, formOf, readable}
+use Rattle.listing.proofs.ReadingLaws.{and-true}
+use Rattle.listing.proofs.DecimalLaws.{tens, digits-one, digits-more, digits-short}
+
+-- a digit is read
+digit-read : (close count value b : ℕ) (text : List ℕ) → 48 ≤ b → b ≤ 57 → count < 5
+    → fieldFrom close count value (b ∷ text) ≡ fieldFrom close (count + 1) (10 * value + (b - 48)) text
+digit-read close count value b text h l f = rw (le-leb 48 b h, le-leb b 57 l, lt-ltb count 5 f) refl
+
+-- the closing byte, which is no digit, ends the number
+close-read : (close count value : ℕ) (text : List ℕ) → close < 48 → 0 < count → value ≤ 65535
+    → fieldFrom close count value (close ∷ text) ≡ found value text
+close-read close count value text h l f = rw (lt-leb 48 close h, eq-eqb close close refl, lt-ltb 0 count l, le-leb value 65535 f) refl
+
+-- the digits of a number are read as the number
+digits-read : (close k n : ℕ) (text : List ℕ) → k < 5 → n < tens (suc k)
+    → fieldFrom close 0 0 (digits (suc k) n ++ text) ≡ fieldFrom close (length (digits (suc k) n)) n text
+digits-read close zero n text h l =
+    let value : 10 * 0 + (48 + n - 48) ≡ n = omega arith in
+    rw (digits-one 0 n (omega arith)) (digit-read close 0 0 (48 + n) text (omega arith) (omega arith) (omega arith) ∙ ap (λ (v : ℕ). fieldFrom close 1 v text) value)
+digits-read close (suc k) n text h l = elim (compare n 10) [
+  | less i t ↦
+      let value : 10 * 0 + (48 + n - 48) ≡ n = omega arith in
+      rw (digits-one (suc k) n i) (digit-read close 0 0 (48 + n) text (omega arith) (omega arith) (omega arith) ∙ ap (λ (v : ℕ). fieldFrom close 1 v text) value)
+  | not-less i t ↦
+      let last = 48 + n % 10 in
+      let front = digits (suc k) (n / 10) in
+      let short = digits-short (suc k) (n / 10) in
+      let split : (front ++ (last ∷ [])) ++ text ≡ front ++ (last ∷ text) = append-assoc front (last ∷ []) text in
+      let size : length (front ++ (last ∷ [])) ≡ length front + 1 = length-append front (last ∷ []) in
+      let value : 10 * (n / 10) + (48 + n % 10 - 48) ≡ n = omega arith in
+      rw (digits-more (suc k) n i, split, size)
+      (digits-read close k (n / 10) (last ∷ text) (omega arith) (omega arith)
+      ∙ (digit-read close (length front) (n / 10) last text (omega arith) (omega arith) (omega arith)
+      ∙ ap (λ (v : ℕ). fieldFrom close (length front + 1) v text) value))
+]
+
+digits-some : (k n : ℕ) → 0 < length (digits (suc k) n)
+digits-some k n = elim (compare n 10) [
+  | less h t ↦ rw (digits-one k n h) (omega arith)
+  | not-less h t ↦ rw (digits-more k n h, length-append) (omega arith)
+]
+
+-- a number that is printed and closed reads back as itself
+pub decimal-read : (close n : ℕ) (text : List ℕ) → close < 48 → n < 65536 → field close (decimal n ++ (close ∷ text)) ≡ found n text
+unfolding field decimal
+decimal-read close n text h l =
+    digits-read close 4 n (close ∷ text) (omega arith) (omega arith)
+    ∙ close-read close (length (digits 5 n)) n text h (digits-some 4 n) (omega arith)
+
+-- the ends of requests that a text can hold: two by two, each of 16 bits
+pub data Ends : List ℕ → Type 0 where
+  empty : Ends []
+  more : {x y : ℕ} {ends : List ℕ} → x < 65536 → y < 65536 → Ends ends → Ends (x ∷ y ∷ ends)
+
+-- the text that says n, w and the ends, with no leading zeros
+abbrev pub linesText : List ℕ → List ℕ
+linesText [] = []
+linesText (x ∷ []) = []
+linesText (x ∷ y ∷ ends) = decimal x ++ (space ∷ (decimal y ++ (lineFeed ∷ linesText ends)))
+
+abbrev pub textOf : ℕ → ℕ → ℕ → List ℕ → List ℕ
+textOf n w m ends = decimal n ++ (space ∷ (decimal w ++ (space ∷ (decimal m ++ (lineFeed ∷ linesText ends)))))
+
+-- a line reads back as its ends
+line-read : (x y : ℕ) (text : List ℕ) → x < 65536 → y < 65536 → line (decimal x ++ (space ∷ (decimal y ++ (lineFeed ∷ text)))) ≡ two x y text
+unfolding line
+line-read x y text hx hy =
+    rw (decimal-read space x (decimal y ++ (lineFeed ∷ text)) (omega arith) hx, decimal-read lineFeed y text (omega arith) hy) refl
+
+-- the lines read back as the ends
+lines-read : (ends sofar : List ℕ) (m : ℕ) → Ends ends → length ends ≡ 2 * m → linesFrom sofar m (linesText ends) ≡ all (sofar ++ ends)
+lines-read [] sofar zero empty s = ap all (sym (append-nil sofar))
+lines-read [] sofar (suc m) empty s = absurd (omega arith)
+lines-read (x ∷ y ∷ ends) sofar zero (more hx hy e) s = absurd (omega arith)
+lines-read (x ∷ y ∷ ends) sofar (suc m) (more hx hy e) s =
+    rw (line-read x y (linesText ends) hx hy) (lines-read ends (sofar ++ (x ∷ y ∷ [])) m e (omega arith) ∙ ap all (append-assoc sofar (x ∷ y ∷ []) ends))
+
+-- and the whole text as n, w and the ends
+pub text-read : (n w m : ℕ) (ends : List ℕ) → n < 65536 → w < 65536 → m < 65536 → Ends ends → length ends ≡ 2 * m
+    → formOf (textOf n w m ends) ≡ readable n w ends
+unfolding formOf heading
+text-read n w m ends hn hw hm e s =
+    let first = decimal-read space n (decimal w ++ (space ∷ (decimal m ++ (lineFeed ∷ linesText ends)))) (omega arith) hn in
+    let second = decimal-read space w (decimal m ++ (lineFeed ∷ linesText ends)) (omega arith) hw in
+    let third = decimal-read lineFeed m (linesText ends) (omega arith) hm in
+    rw (first, second, third, lines-read ends [] m e s) refl
+
+-- a number that is read has 16 bits
+field-small : (close count value : ℕ) (text : List ℕ) {v : ℕ} {rest : List ℕ} → fieldFrom close count value text ≡ found v rest → v < 65536
+field-small close count value [] {v} {rest} e = let z : _≡_ {A = ℕ} 0 1 = cc in absurd (omega arith)
+field-small close count value (b ∷ text) {v} {rest} e = elim (is (oneMore b count)) [
+  | yes t ↦ field-small close (count + 1) (10 * value + (b - 48)) text (rw t at e)
+  | no t ↦ elim (is (closes close b count value)) [
+    | yes c ↦
+        let limit = leb-true value 65535 (and-true (ltb 0 count) (leb value 65535) (and-true (eqb b close) (ltb 0 count && leb value 65535) c .1) .1) in
+        let here : found value text ≡ found v rest = rw (t, c) at e in
+        let same : value ≡ v = cc in
+        omega arith
+    | no c ↦
+        let here : missing ≡ found v rest = rw (t, c) at e in
+        let z : _≡_ {A = ℕ} 0 1 = cc in
+        absurd (omega arith)
+  ]
+]
+
+-- the ends of a line that is read have 16 bits
+line-small : (text : List ℕ) {x y : ℕ} {rest : List ℕ} → line text ≡ two x y rest → (x < 65536) × (y < 65536)
+unfolding line field
+line-small text {x} {y} {rest} e = first (field space text) refl e
+  where
+    second : (v : ℕ) (behind : List ℕ) → v < 65536 → (f : Field) → field lineFeed behind ≡ f
+        → onField f broken (λ u rest. two v u rest) ≡ two x y rest → (x < 65536) × (y < 65536)
+    second v behind h missing q e = let z : _≡_ {A = ℕ} 0 1 = cc in absurd (omega arith)
+    second v behind h (found u last) q e =
+        let small = field-small lineFeed 0 0 behind q in
+        let same : v ≡ x = cc in
+        let also : u ≡ y = cc in
+        (omega arith, omega arith)
+
+    first : (f : Field) → field space text ≡ f
+        → onField f broken (λ v behind. onField (field lineFeed behind) broken (λ u rest. two v u rest)) ≡ two x y rest → (x < 65536) × (y < 65536)
+    first missing q e = let z : _≡_ {A = ℕ} 0 1 = cc in absurd (omega arith)
+    first (found v behind) q e = second v behind (field-small space 0 0 text q) (field lineFeed behind) refl e
+
+-- the first line's numbers have 16 bits
+heading-small : (text : List ℕ) {n w m : ℕ} {lines : List ℕ} → heading text ≡ numbers n w m lines → (n < 65536) × (w < 65536) × (m < 65536)
+unfolding heading field
+heading-small text {n} {w} {m} {lines} e = first (field space text) refl e
+  where
+    third : (a b : ℕ) (rest : List ℕ) → a < 65536 → b < 65536 → (f : Field) → field lineFeed rest ≡ f
+        → onField f none (λ c lines. numbers a b c lines) ≡ numbers n w m lines → (n < 65536) × (w < 65536) × (m < 65536)
+    third a b rest h l missing q e = let z : _≡_ {A = ℕ} 0 1 = cc in absurd (omega arith)
+    third a b rest h l (found c last) q e =
+        let small = field-small lineFeed 0 0 rest q in
+        let one : a ≡ n = cc in
+        let other : b ≡ w = cc in
+        let count : c ≡ m = cc in
+        (omega arith, omega arith, omega arith)
+
+    second : (a : ℕ) (behind : List ℕ) → a < 65536 → (f : Field) → field space behind ≡ f
+        → onField f none (λ b rest. onField (field lineFeed rest) none (λ c lines. numbers a b c lines)) ≡ numbers n w m lines → (n < 65536) × (w < 65536) × (m < 65536)
+    second a behind h missing q e = let z : _≡_ {A = ℕ} 0 1 = cc in absurd (omega arith)
+    second a behind h (found b rest) q e = third a b rest h (field-small space 0 0 behind q) (field lineFeed rest) refl e
+
+    first : (f : Field) → field space text ≡ f
+        → onField f none (λ a behind. onField (field space behind) none (λ b rest. onField (field lineFeed rest) none (λ c lines. numbers a b c lines))) ≡ numbers n w m lines
+        → (n < 65536) × (w < 65536) × (m < 65536)
+    first missing q e = let z : _≡_ {A = ℕ} 0 1 = cc in absurd (omega arith)
+    first (found a behind) q e = second a behind (field-small space 0 0 text q) (field space behind) refl e
+
+-- the ends that are read are two for each line, and have 16 bits
+ends-snoc : {ends : List ℕ} {x y : ℕ} → Ends ends → x < 65536 → y < 65536 → Ends (ends ++ (x ∷ y ∷ []))
+ends-snoc empty h l = more h l empty
+ends-snoc (more a b e) h l = more a b (ends-snoc e h l)
+
+abbrev Fit : List ℕ → ℕ → ℕ → Type 0
+Fit ends before m = Ends ends × (length ends ≡ before + 2 * m)
+
+next-line : (m : ℕ) (sofar text : List ℕ) {ends : List ℕ} → Ends sofar
+    → ((x y : ℕ) (rest : List ℕ) → Ends (sofar ++ (x ∷ y ∷ [])) → linesFrom (sofar ++ (x ∷ y ∷ [])) m rest ≡ all ends → Fit ends (length (sofar ++ (x ∷ y ∷ []))) m)
+    → (l : Line) → line text ≡ l → onLine l unfit (λ x y rest. linesFrom (sofar ++ (x ∷ y ∷ [])) m rest) ≡ all ends → Fit ends (length sofar) (suc m)
+next-line m sofar text s more-lines broken q e = let z : _≡_ {A = ℕ} 0 1 = cc in absurd (omega arith)
+next-line m sofar text s more-lines (two x y rest) q e =
+    let small = line-small text q in
+    let fit = more-lines x y rest (ends-snoc s (small .0) (small .1)) e in
+    let size : length (sofar ++ (x ∷ y ∷ [])) ≡ length sofar + 2 = length-append sofar (x ∷ y ∷ []) in
+    let count = fit .1 in
+    (fit .0, omega arith)
+
+lines-small : (sofar : List ℕ) (m : ℕ) (text : List ℕ) {ends : List ℕ} → Ends sofar → linesFrom sofar m text ≡ all ends → Fit ends (length sofar) m
+lines-small sofar zero [] {ends} s e =
+    let same : sofar ≡ ends = cc in
+    (rw (← same) s, rw (← same) (omega arith))
+lines-small sofar zero (b ∷ text) s e = let z : _≡_ {A = ℕ} 0 1 = cc in absurd (omega arith)
+lines-small sofar (suc m) text s e =
+    next-line m sofar text s (λ x y rest fit q. lines-small (sofar ++ (x ∷ y ∷ [])) m rest fit q) (line text) refl e
+
+-- a text has one reading, and so has the text that says it without leading zeros: the same
+pub reading-again : (text : List ℕ) (n w : ℕ) (ends : List ℕ) → formOf text ≡ readable n w ends → formOf (textOf n w (length ends / 2) ends) ≡ readable n w ends
+unfolding formOf
+reading-again text n w ends e = by (heading text) refl e
+  where
+    behind : (a b m : ℕ) (rest : List ℕ) → (a < 65536) × (b < 65536) × (m < 65536) → (l : Lines) → linesFrom [] m rest ≡ l → withRing a b l ≡ readable n w ends
+        → formOf (textOf n w (length ends / 2) ends) ≡ readable n w ends
+    behind a b m rest small unfit q e = let z : _≡_ {A = ℕ} 0 1 = cc in absurd (omega arith)
+    behind a b m rest small (all read) q e =
+        let nodes : a ≡ n = cc in
+        let colours : b ≡ w = cc in
+        let same : read ≡ ends = cc in
+        let fit : Fit ends 0 m = rw same at (lines-small [] m rest empty q) in
+        let count = fit .1 in
+        text-read n w (length ends / 2) ends (omega arith) (omega arith) (omega arith) (fit .0) (omega arith)
+
+    by : (h : Heading) → heading text ≡ h → behindHeading h ≡ readable n w ends → formOf (textOf n w (length ends / 2) ends) ≡ readable n w ends
+    by none q e = let z : _≡_ {A = ℕ} 0 1 = cc in absurd (omega arith)
+    by (numbers a b m rest) q e = behind a b m rest (heading-small text q) (linesFrom [] m rest) refl e
+
+-- "Line 1 repeats n, w and m": the first line's m is half the number of ends
+pub ends-count : (text : List ℕ) (n w m : ℕ) (rest ends : List ℕ) → heading text ≡ numbers n w m rest → formOf text ≡ readable n w ends → length ends / 2 ≡ m
+unfolding formOf
+ends-count text n w m rest ends h e = by (linesFrom [] m rest) refl (rw h at e)
+  where
+    by : (l : Lines) → linesFrom [] m rest ≡ l → withRing n w l ≡ readable n w ends → length ends / 2 ≡ m
+    by unfit q e = let z : _≡_ {A = ℕ} 0 1 = cc in absurd (omega arith)
+    by (all read) q e =
+        let same : read ≡ ends = cc in
+        let fit : Fit ends 0 m = rw same at (lines-small [] m rest empty q) in
+        let count = fit .1 in
+        omega arith
