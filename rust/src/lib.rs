@@ -5,8 +5,26 @@
 
 mod raw {
     extern "C" {
-        pub fn tarziloen_plan(n: u16, w: u16, ends: *const u16, ends_len: usize, table: *mut u16, table_len: usize, values: *mut u16, values_len: usize) -> u16;
-        pub fn tarziloen_check(n: u16, w: u16, ends: *const u16, ends_len: usize, table: *const u16, table_len: usize, values: *mut u16, values_len: usize) -> u16;
+        pub fn tarziloen_plan(
+            n: u16,
+            w: u16,
+            ends: *const u16,
+            ends_len: usize,
+            table: *mut u16,
+            table_len: usize,
+            values: *mut u16,
+            values_len: usize,
+        ) -> u16;
+        pub fn tarziloen_check(
+            n: u16,
+            w: u16,
+            ends: *const u16,
+            ends_len: usize,
+            table: *const u16,
+            table_len: usize,
+            values: *mut u16,
+            values_len: usize,
+        ) -> u16;
     }
 }
 
@@ -51,26 +69,60 @@ pub struct Summary {
 }
 
 fn refusal(number: u16, values: [u16; 4]) -> Refusal {
-    Refusal { number, values: [values[0], values[1]] }
+    Refusal {
+        number,
+        values: [values[0], values[1]],
+    }
 }
 
 /// Plans the requests, two ends each: the fate number of each goes into the first entries of the table.
 pub fn plan(n: u16, w: u16, ends: &[u16], table: &mut [u16]) -> Result<Summary, Refusal> {
     let mut values = [0u16; 4];
     // SAFETY: each pointer comes with the length of the slice that it points to, and the library stays within them.
-    let number = unsafe { raw::tarziloen_plan(n, w, ends.as_ptr(), ends.len(), table.as_mut_ptr(), table.len(), values.as_mut_ptr(), values.len()) };
+    let number = unsafe {
+        raw::tarziloen_plan(
+            n,
+            w,
+            ends.as_ptr(),
+            ends.len(),
+            table.as_mut_ptr(),
+            table.len(),
+            values.as_mut_ptr(),
+            values.len(),
+        )
+    };
     if number != 0 {
         return Err(refusal(number, values));
     }
-    let used = if values[3] == 0 { Part::Chain } else { Part::Pair };
-    Ok(Summary { chain: values[0], matched: values[1], paired: values[2], used })
+    let used = if values[3] == 0 {
+        Part::Chain
+    } else {
+        Part::Pair
+    };
+    Ok(Summary {
+        chain: values[0],
+        matched: values[1],
+        paired: values[2],
+        used,
+    })
 }
 
 /// Checks a table of fate numbers for the requests; gives the number of requests that it serves.
 pub fn check(n: u16, w: u16, ends: &[u16], table: &[u16]) -> Result<u16, Refusal> {
     let mut values = [0u16; 4];
     // SAFETY: as in `plan`.
-    let number = unsafe { raw::tarziloen_check(n, w, ends.as_ptr(), ends.len(), table.as_ptr(), table.len(), values.as_mut_ptr(), values.len()) };
+    let number = unsafe {
+        raw::tarziloen_check(
+            n,
+            w,
+            ends.as_ptr(),
+            ends.len(),
+            table.as_ptr(),
+            table.len(),
+            values.as_mut_ptr(),
+            values.len(),
+        )
+    };
     if number != 0 {
         return Err(refusal(number, values));
     }

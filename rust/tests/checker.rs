@@ -1,5 +1,4 @@
 //! The checker against a naive one, on plans and on damaged plans.
-#[path = "reference.rs"]
 mod reference;
 
 use reference::{requests, Random};

@@ -1,5 +1,4 @@
 //! The planner against a second one, on random and adversarial lists; two thirds against every plan on small rings.
-#[path = "reference.rs"]
 mod reference;
 
 use reference::{best_plan, chain_count, match_count, requests, Random};
@@ -10,12 +9,28 @@ fn compare(n: u16, w: u16, ends: &[u16]) -> u16 {
     let m = ends.len() / 2;
     let list = requests(ends);
     let mut table = vec![9999u16; m + 3];
-    let got = plan(n, w, ends, &mut table).unwrap_or_else(|r| panic!("refused {} on n {n} w {w} {ends:?}", r.number));
+    let got = plan(n, w, ends, &mut table)
+        .unwrap_or_else(|r| panic!("refused {} on n {n} w {w} {ends:?}", r.number));
     let chain = chain_count(w as usize, &list);
     let matched = match_count(&list);
     let paired = 2 * matched.min(w as usize);
-    assert_eq!((got.chain as usize, got.matched as usize, got.paired as usize), (chain, matched, paired), "n {n} w {w} {ends:?}");
-    assert_eq!(got.used, if paired > chain { Part::Pair } else { Part::Chain });
+    assert_eq!(
+        (
+            got.chain as usize,
+            got.matched as usize,
+            got.paired as usize
+        ),
+        (chain, matched, paired),
+        "n {n} w {w} {ends:?}"
+    );
+    assert_eq!(
+        got.used,
+        if paired > chain {
+            Part::Pair
+        } else {
+            Part::Chain
+        }
+    );
     assert_eq!(&table[m..], &[9999, 9999, 9999], "entries past m stay");
     let served = check(n, w, ends, &table).expect("the plan is feasible");
     assert_eq!(served as usize, chain.max(paired));
@@ -35,11 +50,16 @@ fn random_list(random: &mut Random, n: u64, m: u64) -> Vec<u16> {
 /// Bundles of parallel chords, each bundle crossing all the others.
 fn bundles(k: u64, size: u64, random: &mut Random) -> (u16, Vec<u16>) {
     let n = (2 * k).max(3);
-    let mut list: Vec<(u16, u16)> = (0..k).flat_map(|i| (0..size).map(move |_| (i as u16, (i + k) as u16))).collect();
+    let mut list: Vec<(u16, u16)> = (0..k)
+        .flat_map(|i| (0..size).map(move |_| (i as u16, (i + k) as u16)))
+        .collect();
     for i in (1..list.len()).rev() {
         list.swap(i, random.below(i as u64 + 1) as usize);
     }
-    (n as u16, list.into_iter().flat_map(|(a, b)| [a, b]).collect())
+    (
+        n as u16,
+        list.into_iter().flat_map(|(a, b)| [a, b]).collect(),
+    )
 }
 
 /// Nearly antipodal chords: most pairs cross, and the rest make odd cycles.
@@ -48,7 +68,14 @@ fn antipodal(m: u64, jitter: u64, random: &mut Random) -> Vec<u16> {
     for _ in 0..m {
         let a = random.below(256);
         let b = (a + 128 + random.below(2 * jitter + 1) + 256 - jitter) % 256;
-        ends.extend([a as u16, if b == a { ((b + 1) % 256) as u16 } else { b as u16 }]);
+        ends.extend([
+            a as u16,
+            if b == a {
+                ((b + 1) % 256) as u16
+            } else {
+                b as u16
+            },
+        ]);
     }
     ends
 }
@@ -101,7 +128,10 @@ fn two_thirds_of_the_best_plan_on_small_rings() {
         let ends = random_list(&mut random, n, m);
         let served = compare(n as u16, w as u16, &ends) as usize;
         let best = best_plan(n as usize, w as usize, &requests(&ends));
-        assert!(2 * best <= 3 * served, "n {n} w {w} {ends:?}: {served} of {best}");
+        assert!(
+            2 * best <= 3 * served,
+            "n {n} w {w} {ends:?}: {served} of {best}"
+        );
         lists += 1;
         tight += usize::from(2 * best == 3 * served && best > 0);
     }
@@ -113,7 +143,10 @@ fn refusals_in_their_order() {
     let number = |n, w, ends: &[u16], entries: usize| {
         let mut table = vec![7u16; entries];
         let refused = plan(n, w, ends, &mut table).err();
-        assert!(refused.is_none() || table.iter().all(|&x| x == 7), "a refused call changes nothing");
+        assert!(
+            refused.is_none() || table.iter().all(|&x| x == 7),
+            "a refused call changes nothing"
+        );
         refused.map(|r| (r.number, r.values))
     };
     assert_eq!(number(2, 0, &[9], 0).unwrap().0, 1);
@@ -123,7 +156,10 @@ fn refusals_in_their_order() {
     assert_eq!(number(3, 1, &[9], 0).unwrap().0, 3);
     assert_eq!(number(3, 1, &[0, 1].repeat(513), 600).unwrap().0, 3);
     assert_eq!(number(3, 1, &[0, 1, 3, 3, 1, 1], 9), Some((4, [1, 0])));
-    assert_eq!(number(3, 1, &[0, 1, 0, 2, 1, 1, 5, 0], 9), Some((5, [2, 0])));
+    assert_eq!(
+        number(3, 1, &[0, 1, 0, 2, 1, 1, 5, 0], 9),
+        Some((5, [2, 0]))
+    );
     assert_eq!(number(3, 1, &[0, 1, 0, 2], 1).unwrap().0, 6);
     assert_eq!(number(3, 1, &[], 0), None);
     assert_eq!(number(256, 128, &[0, 255].repeat(512), 512), None);

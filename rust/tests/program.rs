@@ -5,7 +5,11 @@ use std::process::{Command, Stdio};
 /// What the program prints for an input that comes in pieces of the given size.
 fn output(input: &[u8], piece: usize) -> String {
     let program = concat!(env!("CARGO_MANIFEST_DIR"), "/../target/bin/plan");
-    let mut child = Command::new(program).stdin(Stdio::piped()).stdout(Stdio::piped()).spawn().expect("the program is built");
+    let mut child = Command::new(program)
+        .stdin(Stdio::piped())
+        .stdout(Stdio::piped())
+        .spawn()
+        .expect("the program is built");
     let mut stdin = child.stdin.take().unwrap();
     for part in input.chunks(piece.max(1)) {
         // The program reads no further than one byte past the limit, so a write may find it gone.
@@ -15,7 +19,12 @@ fn output(input: &[u8], piece: usize) -> String {
     }
     drop(stdin);
     let mut text = String::new();
-    child.stdout.take().unwrap().read_to_string(&mut text).unwrap();
+    child
+        .stdout
+        .take()
+        .unwrap()
+        .read_to_string(&mut text)
+        .unwrap();
     assert!(child.wait().unwrap().success());
     text
 }
@@ -27,9 +36,19 @@ const T1_PLAN: &str = "plan 8 1 4\nchain 2 match 2 pair 2 used chain\n0 P 0\n1 P
 fn plans_whole_and_piece_by_piece() {
     assert_eq!(output(T1.as_bytes(), 4096), T1_PLAN);
     assert_eq!(output(T1.as_bytes(), 1), T1_PLAN);
-    assert_eq!(output(b"00008 001 4\n0 3\n03 006\n00006 0\n1 4\n", 7), T1_PLAN, "leading zeros");
-    assert_eq!(output(b"4 1 2\n0 2\n2 0\n", 64), "plan 4 1 2\nchain 1 match 1 pair 2 used pair\n0 P 0\n1 S 0\n");
-    assert_eq!(output(b"3 1 0\n", 64), "plan 3 1 0\nchain 0 match 0 pair 0 used chain\n");
+    assert_eq!(
+        output(b"00008 001 4\n0 3\n03 006\n00006 0\n1 4\n", 7),
+        T1_PLAN,
+        "leading zeros"
+    );
+    assert_eq!(
+        output(b"4 1 2\n0 2\n2 0\n", 64),
+        "plan 4 1 2\nchain 1 match 1 pair 2 used pair\n0 P 0\n1 S 0\n"
+    );
+    assert_eq!(
+        output(b"3 1 0\n", 64),
+        "plan 3 1 0\nchain 0 match 0 pair 0 used chain\n"
+    );
 }
 
 #[test]
@@ -53,7 +72,12 @@ fn every_broken_form_is_refused_by_21() {
         b"8 1 1\n0 x\n",
     ];
     for input in broken {
-        assert_eq!(output(input, 4096), "refused 21\n", "{:?}", String::from_utf8_lossy(input));
+        assert_eq!(
+            output(input, 4096),
+            "refused 21\n",
+            "{:?}",
+            String::from_utf8_lossy(input)
+        );
     }
 }
 

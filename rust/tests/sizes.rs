@@ -1,5 +1,4 @@
 //! The sizes that program `sizes` writes, computed by another algorithm on the same lists.
-#[path = "reference.rs"]
 mod reference;
 
 use reference::{crossing, match_count, requests};
@@ -12,7 +11,10 @@ struct List {
 
 /// m chords over `reach` of n nodes. Each begins `step` nodes behind the one before, modulo p.
 fn regular(p: usize, n: usize, reach: usize, step: usize, m: usize) -> Vec<u16> {
-    (0..m).map(|j| j * step % p).flat_map(|i| [i as u16, ((i + reach) % n) as u16]).collect()
+    (0..m)
+        .map(|j| j * step % p)
+        .flat_map(|i| [i as u16, ((i + reach) % n) as u16])
+        .collect()
 }
 
 /// A chain of triangles: the lower ends of each three chords are reversed, and the last of each three is swapped with the first of the next.
@@ -22,7 +24,10 @@ fn triangles(count: usize, step: usize) -> Vec<u16> {
     for i in (3..m).step_by(3) {
         lower.swap(i - 1, i);
     }
-    (0..m).map(|j| j * step % m).flat_map(|i| [i as u16, (m + lower[i]) as u16]).collect()
+    (0..m)
+        .map(|j| j * step % m)
+        .flat_map(|i| [i as u16, (m + lower[i]) as u16])
+        .collect()
 }
 
 /// m chords on n nodes, from any node to one that is at least `low` nodes behind it, and less than `low + range`.
@@ -58,13 +63,28 @@ fn cycles() -> Vec<List> {
         (215, 107, 111, 512),
         (246, 120, 197, 512),
     ];
-    let chains = [(10, 11), (20, 7), (40, 7), (40, 13), (41, 17), (42, 5), (42, 13)];
+    let chains = [
+        (10, 11),
+        (20, 7),
+        (40, 7),
+        (40, 13),
+        (41, 17),
+        (42, 5),
+        (42, 13),
+    ];
     let star = |&(n, reach, step, m): &(usize, usize, usize, usize)| List {
         name: format!("star of {n} reach {reach} step {step} requests {m}"),
         ends: regular(n, n, reach, step, m),
     };
-    let chain = |&(count, step): &(usize, usize)| List { name: format!("triangles {count} step {step}"), ends: triangles(count, step) };
-    stars.iter().map(star).chain(chains.iter().map(chain)).collect()
+    let chain = |&(count, step): &(usize, usize)| List {
+        name: format!("triangles {count} step {step}"),
+        ends: triangles(count, step),
+    };
+    stars
+        .iter()
+        .map(star)
+        .chain(chains.iter().map(chain))
+        .collect()
 }
 
 /// All lists, in the order in which the program takes them.
@@ -72,19 +92,28 @@ fn lists() -> Vec<List> {
     let mut all = Vec::new();
     for k in [1, 2, 3, 8, 17, 40, 73, 102, 128] {
         for size in [3, 5, 7].into_iter().filter(|size| k * size <= 512) {
-            all.push(List { name: format!("bundles {k} of {size}"), ends: regular(k, 2 * k, k, 7, k * size) });
+            all.push(List {
+                name: format!("bundles {k} of {size}"),
+                ends: regular(k, 2 * k, k, 7, k * size),
+            });
         }
     }
     all.extend(cycles());
     for m in [16, 64, 200, 512] {
         for n in [8, 16, 64, 256] {
-            all.push(List { name: format!("random nodes {n} requests {m}"), ends: drawn(n, 1, n - 1, 1000 * m + n, m) });
+            all.push(List {
+                name: format!("random nodes {n} requests {m}"),
+                ends: drawn(n, 1, n - 1, 1000 * m + n, m),
+            });
         }
     }
     for m in [16, 64, 200, 512] {
         for (n, jitter) in [(8, 1), (16, 1), (64, 2), (256, 0), (256, 3)] {
             let name = format!("antipodal nodes {n} jitter {jitter} requests {m}");
-            all.push(List { name, ends: drawn(n, n / 2 - jitter, 2 * jitter + 1, 1000 * m + n, m) });
+            all.push(List {
+                name,
+                ends: drawn(n, n / 2 - jitter, 2 * jitter + 1, 1000 * m + n, m),
+            });
         }
     }
     all
@@ -96,7 +125,10 @@ fn sizes_agree() {
     let lists = lists();
     assert_eq!(written.len(), lists.len());
     for (line, list) in written.iter().zip(&lists) {
-        assert_eq!(*line, format!("{}: {}", list.name, match_count(&requests(&list.ends))));
+        assert_eq!(
+            *line,
+            format!("{}: {}", list.name, match_count(&requests(&list.ends)))
+        );
     }
 }
 
@@ -159,14 +191,23 @@ fn cycles_are_hard() {
     for list in cycles() {
         let requests = requests(&list.ends);
         let m = requests.len();
-        let adjacent: Vec<Vec<usize>> =
-            (0..m).map(|i| (0..m).filter(|&j| i != j && !crossing(requests[i], requests[j])).collect()).collect();
+        let adjacent: Vec<Vec<usize>> = (0..m)
+            .map(|i| {
+                (0..m)
+                    .filter(|&j| i != j && !crossing(requests[i], requests[j]))
+                    .collect()
+            })
+            .collect();
         let best = match_count(&requests);
         let mut mate = first_come(&adjacent);
         assert!(pair_count(&mate) < best, "{}", list.name);
         while (0..m).any(|r| mate[r] == r && enlarge_plainly(&adjacent, &mut mate, r)) {}
         short += usize::from(pair_count(&mate) < best);
-        println!("{}: {} of {best} without blossoms", list.name, pair_count(&mate));
+        println!(
+            "{}: {} of {best} without blossoms",
+            list.name,
+            pair_count(&mate)
+        );
     }
     assert_eq!(short, 13);
 }

@@ -23,7 +23,9 @@ impl Random {
 
 /// The requests of a list of ends, the smaller end first.
 pub fn requests(ends: &[u16]) -> Vec<(u16, u16)> {
-    ends.chunks(2).map(|e| (e[0].min(e[1]), e[0].max(e[1]))).collect()
+    ends.chunks(2)
+        .map(|e| (e[0].min(e[1]), e[0].max(e[1])))
+        .collect()
 }
 
 /// How many intervals w colours can serve: a sweep by the smaller end that drops the latest-ending interval when a point is too full.
@@ -53,7 +55,13 @@ pub fn crossing(r: (u16, u16), s: (u16, u16)) -> bool {
 /// The size of a maximum matching, by Edmonds's algorithm with contracted blossoms.
 pub fn match_count(requests: &[(u16, u16)]) -> usize {
     let m = requests.len();
-    let edges: Vec<Vec<usize>> = (0..m).map(|i| (0..m).filter(|&j| i != j && !crossing(requests[i], requests[j])).collect()).collect();
+    let edges: Vec<Vec<usize>> = (0..m)
+        .map(|i| {
+            (0..m)
+                .filter(|&j| i != j && !crossing(requests[i], requests[j]))
+                .collect()
+        })
+        .collect();
     let mut mate = vec![usize::MAX; m];
     for root in 0..m {
         if mate[root] == usize::MAX {
@@ -114,7 +122,14 @@ fn augment(root: usize, edges: &[Vec<usize>], mate: &mut [usize]) {
     }
 }
 
-fn common_base(root: usize, mut a: usize, mut b: usize, base: &[usize], parent: &[usize], mate: &[usize]) -> usize {
+fn common_base(
+    root: usize,
+    mut a: usize,
+    mut b: usize,
+    base: &[usize],
+    parent: &[usize],
+    mate: &[usize],
+) -> usize {
     let mut on_path = vec![false; base.len()];
     loop {
         a = base[a];
@@ -133,7 +148,15 @@ fn common_base(root: usize, mut a: usize, mut b: usize, base: &[usize], parent: 
     }
 }
 
-fn mark_path(mut v: usize, top: usize, mut child: usize, base: &[usize], parent: &mut [usize], mate: &[usize], in_blossom: &mut [bool]) {
+fn mark_path(
+    mut v: usize,
+    top: usize,
+    mut child: usize,
+    base: &[usize],
+    parent: &mut [usize],
+    mate: &[usize],
+    in_blossom: &mut [bool],
+) {
     while base[v] != top {
         in_blossom[base[v]] = true;
         in_blossom[base[mate[v]]] = true;
@@ -145,11 +168,18 @@ fn mark_path(mut v: usize, top: usize, mut child: usize, base: &[usize], parent:
 
 /// The links of a way, as a list of flags.
 fn links(n: usize, (a, b): (u16, u16), seam: bool) -> Vec<bool> {
-    (0..n).map(|l| ((a as usize) <= l && l < b as usize) != seam).collect()
+    (0..n)
+        .map(|l| ((a as usize) <= l && l < b as usize) != seam)
+        .collect()
 }
 
 /// What the rules say of a table, by marking links: the number served, or the refusal's number and values.
-pub fn check(n: usize, w: usize, requests: &[(u16, u16)], table: &[u16]) -> Result<u16, (u16, [u16; 2])> {
+pub fn check(
+    n: usize,
+    w: usize,
+    requests: &[(u16, u16)],
+    table: &[u16],
+) -> Result<u16, (u16, [u16; 2])> {
     let m = requests.len();
     if let Some(i) = (0..m).find(|&i| table[i] as usize > 2 * w) {
         return Err((7, [i as u16, 0]));
@@ -174,7 +204,13 @@ pub fn check(n: usize, w: usize, requests: &[(u16, u16)], table: &[u16]) -> Resu
 
 /// The most that any feasible plan serves, by trying every plan.
 pub fn best_plan(n: usize, w: usize, requests: &[(u16, u16)]) -> usize {
-    fn go(i: usize, n: usize, w: usize, requests: &[(u16, u16)], used: &mut Vec<Vec<bool>>) -> usize {
+    fn go(
+        i: usize,
+        n: usize,
+        w: usize,
+        requests: &[(u16, u16)],
+        used: &mut Vec<Vec<bool>>,
+    ) -> usize {
         if i == requests.len() {
             return 0;
         }
