@@ -4,11 +4,13 @@ use super::values::put;
 use super::values::refused;
 use checker::CheckAnswer;
 use checker::check;
+use listing::answer;
 use planner::PlanAnswer;
 use planner::Summary;
 use planner::plans::plan;
 ghost use mathlib.Core.Path.{_≡_};
 ghost use Rattle.checker.specs.Check.{checkAnswer};
+ghost use Rattle.listing.specs.Promise.{AnswerPromise};
 ghost use Rattle.planner.specs.declared.answers.PlanAnswer.the-variants.{Planned};
 ghost use Rattle.export.specs.Values.{planValues, checkResult, checkValues};
 ghost use Rattle.export.specs.Calls.{PlanCall};
@@ -64,4 +66,12 @@ pub extern "C" fn tarziloen_check(
         }
         CheckAnswer::Refused(refusal) => refused(refusal, values),
     }
+}
+
+// The planning program's output for a text, and its length. A buffer of fewer than 8,192 bytes gets nothing.
+#[no_mangle]
+pub extern "C" fn tarziloen_answer(text: &[u8], out: &mut [u8]) -> usize
+    ensures { λ size. ⌜ AnswerPromise (now (text .entry)) (now (out .entry)) (now (out .exit)) size ⌝ }
+{
+    answer(text, out)
 }

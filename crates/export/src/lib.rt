@@ -1,3 +1,5 @@
 // The product as a static library with a C interface, on numbers and slices only.
 pub mod calls;
+pub mod changes;
+pub mod questions;
 pub mod values;

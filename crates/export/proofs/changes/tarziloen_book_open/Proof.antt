@@ -1,0 +1,59 @@
+use Rattle.export.proofs.OutcomeLaws.{changed-as, refused-change, by-open}
+use borrow.Author.Needs.{needs}
+use Rattle.export.proofs.changes.tarziloen_book_open.Statement.{statement}
+use Rattle.export.proofs.changes.tarziloen_book_open.Tie as tie
+
+open-requires : tie.Need-open-requires
+open-requires c κs = search needs
+
+enum-told : tie.Need-enum-told
+enum-told c = search needs
+
+keep-requires : tie.Need-keep-requires
+keep-requires c κs = search needs
+
+enum-known-answer : tie.Need-enum-known-answer
+enum-known-answer c = search needs
+
+refused-requires : tie.Need-refused-requires
+refused-requires c κs = search needs
+
+same-length : tie.Need-same-length
+same-length c = search needs
+
+same-length-2 : tie.Need-same-length-2
+same-length-2 c = search needs
+
+returns : tie.Need-returns
+returns c =
+    let keep = c .before .before .before .before in
+    let told = keep .before .before .before .before in
+    let open-call = told .before .before in
+    let s = open-call .before .before .before .args in
+    changed-as (by-open (s .n) (s .w) (s .buffer .now) (open-call .«open» .ensures) (told .enum-told .given .1)) (keep .keep .ensures)
+
+same-length-3 : tie.Need-same-length-3
+same-length-3 c = search needs
+
+returns-2 : tie.Need-returns-2
+returns-2 c =
+    let refused = c .before .before in
+    let told = refused .before .before .before in
+    let open-call = told .before .before in
+    let s = open-call .before .before .before .args in
+    changed-as (by-open (s .n) (s .w) (s .buffer .now) (open-call .«open» .ensures) (told .answer .given .1)) (refused-change (refused .refused .ensures))
+
+pub tarziloen-book-open-spec : {M : Type 1} → statement M
+tarziloen-book-open-spec =
+    tie.close
+    (tie.spec
+    open-requires
+    enum-told
+    keep-requires
+    enum-known-answer
+    refused-requires
+    same-length
+    same-length-2
+    returns
+    same-length-3
+    returns-2)

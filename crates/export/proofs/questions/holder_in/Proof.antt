@@ -1,0 +1,72 @@
+use mathlib.Core.Path.{refl, sym, _∙_, ap}
+use Rattle.export.specs.BookCalls.{holderOutcome}
+use Rattle.export.proofs.OutcomeLaws.{answered-as, refused-answer}
+use borrow.Author.Needs.{needs}
+use Rattle.export.proofs.questions.holder_in.Statement.{statement}
+use Rattle.export.proofs.questions.holder_in.Tie as tie
+
+holder-requires : tie.Need-holder-requires
+holder-requires c κs = search needs
+
+enum-told : tie.Need-enum-told
+enum-told c = search needs
+
+put-requires : tie.Need-put-requires
+put-requires c κs = search needs
+
+enum-known-answer : tie.Need-enum-known-answer
+enum-known-answer c = search needs
+
+put-requires-2 : tie.Need-put-requires-2
+put-requires-2 c κs = search needs
+
+enum-known-answer-2 : tie.Need-enum-known-answer-2
+enum-known-answer-2 c = search needs
+
+refused-requires : tie.Need-refused-requires
+refused-requires c κs = search needs
+
+same-length : tie.Need-same-length
+same-length c = search needs
+
+returns : tie.Need-returns
+returns c =
+    let put = c .before .before in
+    let told = put .before .before in
+    answered-as (ap holderOutcome (sym (told .enum-told .given .1) ∙ told .before .before .holder .ensures)) (record { numbered = refl; filled = put .put .ensures })
+
+same-length-2 : tie.Need-same-length-2
+same-length-2 c = search needs
+
+returns-2 : tie.Need-returns-2
+returns-2 c =
+    let put = c .before .before in
+    let answer = put .before .before .before in
+    answered-as (ap holderOutcome (sym (answer .answer .given .1) ∙ answer .before .before .holder .ensures)) (record { numbered = refl; filled = put .put2 .ensures })
+
+same-length-3 : tie.Need-same-length-3
+same-length-3 c = search needs
+
+returns-3 : tie.Need-returns-3
+returns-3 c =
+    let refused = c .before .before in
+    let answer = refused .before .before .before in
+    answered-as (ap holderOutcome (sym (answer .answer2 .given .1) ∙ answer .before .before .holder .ensures)) (refused-answer (refused .refused .ensures))
+
+pub holder-in-spec : {M : Type 1} → statement M
+holder-in-spec =
+    tie.close
+    (tie.spec
+    holder-requires
+    enum-told
+    put-requires
+    enum-known-answer
+    put-requires-2
+    enum-known-answer-2
+    refused-requires
+    same-length
+    returns
+    same-length-2
+    returns-2
+    same-length-3
+    returns-3)

@@ -1,0 +1,98 @@
+// Questions to a book in its stored form.
+use super::values::put;
+use super::values::refused;
+use book::Book;
+use book::Circuit;
+use book::holder;
+use book::holders::HolderAnswer;
+use book::orders::ShowAnswer;
+use book::show;
+use ring::fates::way_number;
+use stored::loads::LoadAnswer;
+use stored::loads::load;
+ghost use mathlib.Core.Path.{_≡_};
+ghost use Rattle.book.specs.declared.orders.ShowAnswer.the-variants.{Shown};
+ghost use Rattle.book.specs.Orders.{shown};
+ghost use Rattle.book.specs.Holders.{heldBy};
+ghost use Rattle.export.specs.Outcomes.{valuesOf, Answered};
+ghost use Rattle.export.specs.BookCalls.{showOutcome, holderOutcome, showCall, holderCall};
+
+// The ends, the way and the colour of a circuit.
+fn put_circuit(values: &mut [u16], circuit: Circuit)
+    ensures { λ _. ⌜ now (values .exit) ≡ valuesOf (showOutcome (Shown circuit)) (now (values .entry)) ⌝ }
+{
+    let way = circuit.way;
+    put(values, 0, circuit.a);
+    put(values, 1, circuit.b);
+    put(values, 2, way_number(way));
+    put(values, 3, circuit.colour);
+}
+
+// Shows an order of a book.
+fn show_in(book: Book, serial: u16, values: &mut [u16]) -> u16
+    ensures { λ r. ⌜ Answered (showOutcome (shown book serial)) (now (values .entry)) (now (values .exit)) r ⌝ }
+{
+    let answer = show(book, serial);
+    match answer {
+        ShowAnswer::Shown(circuit) => {
+            put_circuit(values, circuit);
+            0
+        }
+        ShowAnswer::Refused(refusal) => refused(refusal, values),
+    }
+}
+
+// Shows an order of the book in the bytes. Values: a, b, way (0 plain, 1 seam), colour.
+#[no_mangle]
+pub extern "C" fn tarziloen_book_show(bytes: &[u8], serial: u16, values: &mut [u16]) -> u16
+    ensures { λ r. ⌜ Answered (showCall (now (bytes .entry)) serial) (now (values .entry)) (now (values .exit)) r ⌝ }
+{
+    let loaded = load(bytes);
+    let answer = loaded.answer;
+    match answer {
+        LoadAnswer::Loaded => {
+            let book = loaded.book;
+            show_in(book, serial, values)
+        }
+        LoadAnswer::Refused(refusal) => refused(refusal, values),
+    }
+}
+
+// The holder of a colour on a link, in a book.
+fn holder_in(book: Book, link: u16, colour: u16, values: &mut [u16]) -> u16
+    ensures { λ r. ⌜ Answered (holderOutcome (heldBy book link colour)) (now (values .entry)) (now (values .exit)) r ⌝ }
+{
+    let answer = holder(book, link, colour);
+    match answer {
+        HolderAnswer::Free => {
+            put(values, 0, 0);
+            0
+        }
+        HolderAnswer::Held(serial) => {
+            put(values, 0, serial);
+            0
+        }
+        HolderAnswer::Refused(refusal) => refused(refusal, values),
+    }
+}
+
+// The holder of a colour on a link, in the book in the bytes. Value: its serial, 0 for free.
+#[no_mangle]
+pub extern "C" fn tarziloen_book_holder(
+    bytes: &[u8],
+    link: u16,
+    colour: u16,
+    values: &mut [u16],
+) -> u16
+    ensures { λ r. ⌜ Answered (holderCall (now (bytes .entry)) link colour) (now (values .entry)) (now (values .exit)) r ⌝ }
+{
+    let loaded = load(bytes);
+    let answer = loaded.answer;
+    match answer {
+        LoadAnswer::Loaded => {
+            let book = loaded.book;
+            holder_in(book, link, colour, values)
+        }
+        LoadAnswer::Refused(refusal) => refused(refusal, values),
+    }
+}
