@@ -5,7 +5,6 @@ use mathlib.Core.List.{List, [], _∷_, _++_}
 use lib.Dec.{ltb}
 use lib.ListN.{length, take}
 use Rattle.ring.specs.Fates.{wayNumber}
-use Rattle.book.specs.declared.circuits.Circuit.{Circuit}
 use Rattle.book.specs.declared.books.Book.{Book}
 use Rattle.book.specs.declared.books.OpenAnswer.{OpenAnswer}
 use Rattle.book.specs.declared.books.OpenAnswer.the-variants as opening

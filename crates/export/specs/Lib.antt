@@ -3,3 +3,4 @@ pub mod Values
 pub mod Calls
 pub mod Outcomes
 pub mod BookCalls
+pub mod Promises

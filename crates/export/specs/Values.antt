@@ -2,7 +2,6 @@
 use Prim.Native.Nat.{ℕ}
 use mathlib.Core.List.{List}
 use lib.ListN.{set}
-use Rattle.ring.specs.declared.refusals.Refusal.{Refusal}
 use Rattle.ring.specs.declared.refusals.Carried.{Carried}
 use Rattle.ring.specs.declared.refusals.Carried.the-variants.{None, One, Two}
 use Rattle.ring.specs.Refusals.{numberOf, carriedBy}

@@ -1,0 +1,177 @@
+/*
+ * Ring planner and ring book: the C interface of the library that
+ * `rt staticlib export` writes to target/staticlib/libexport.a.
+ *
+ * A ring has n nodes, 0 to n-1, and w colours, 0 to w-1. Link i joins node i
+ * and node i+1; link n-1, the seam, joins node n-1 and node 0. A request or a
+ * circuit joins two different nodes; a is the smaller and b the larger. Its
+ * plain way uses links a to b-1, its seam way all the others.
+ *
+ * Every function takes any numbers and any bytes at all: it stays inside the
+ * memory lent to it, always ends, and is proved to answer what its definition
+ * says. The library keeps no state and needs no heap; of the C library it uses
+ * memcpy and memset.
+ *
+ * A slice is passed as a pointer and the number of its entries. The pointer is
+ * aligned and not NULL, even where that number is 0. What is written through
+ * one pointer must not overlap what is lent through another.
+ *
+ * All functions but tarziloen_answer give 0 if the call is accepted, and
+ * otherwise the number of the first ground that turns it down:
+ *
+ *    1  n is not 3 to 256
+ *    2  w is not 1 to 128
+ *    3  more than 512 requests, or an odd number of ends
+ *    4  an end is n or more
+ *    5  the two ends are equal
+ *    6  the plan table has fewer entries than there are requests
+ *    7  a fate number is above 2w
+ *    8  two requests of one colour share a link
+ *    9  the way is not 0 (plain) or 1 (seam)
+ *   10  the colour is w or more
+ *   11  the colour is held on a link of the way
+ *   12  512 circuits are live
+ *   13  serial 65,535 has been given
+ *   14  the serial is 0 or was never given
+ *   15  the order was removed
+ *   16  the link is n or more
+ *   17  the buffer is shorter than the stored form
+ *   18  the length is 0, not a multiple of 512, above 5,120, or above the
+ *       buffer's own
+ *   19  a block has a wrong number or check
+ *   20  the bytes are no stored form of a book
+ *   21  the text is longer than 8,192 bytes or not of the stated form; only
+ *       printed, by tarziloen_answer
+ *
+ * A refused call changes neither plan table nor buffer. The values of a call go
+ * to the first entries of `values`; where it has fewer, as many as fit are
+ * written. A refusal writes no values but these: in tarziloen_plan and
+ * tarziloen_check 4, 5 and 7 give the request's number, and 8 both requests.
+ */
+#ifndef TARZILOEN_H
+#define TARZILOEN_H
+
+#include <stddef.h>
+#include <stdint.h>
+
+#ifdef __cplusplus
+extern "C" {
+#endif
+
+/* The longest stored form of a book, in bytes. */
+#define TARZILOEN_BOOK_BYTES 5120
+
+/* The longest output of tarziloen_answer, in bytes, and its longest text. */
+#define TARZILOEN_ANSWER_BYTES 8192
+
+/*
+ * Plans a list of m requests, 0 to 512 of them.
+ *
+ * In: n, w; `ends`, the two ends of each request in turn, in any order.
+ * Out: the first m entries of `table`, a fate number for each request: 0
+ * blocked, 1+2c plain in colour c, 2+2c seam in colour c; the entries behind
+ * them stay. Values: the requests that the chain part serves, the size of a
+ * maximum matching, the requests that the pair part serves, and the part that
+ * the plan is (0 chain, 1 pair).
+ * Refused: 1 to 6.
+ */
+uint16_t tarziloen_plan(uint16_t n, uint16_t w,
+                        const uint16_t *ends, size_t ends_length,
+                        uint16_t *table, size_t table_length,
+                        uint16_t *values, size_t values_length);
+
+/*
+ * Checks a plan: whether no two requests of one colour share a link.
+ *
+ * In: n, w and `ends` as in tarziloen_plan; the first m entries of `table`, the
+ * fate numbers. Values: the number of requests served.
+ * Refused: 1 to 8.
+ */
+uint16_t tarziloen_check(uint16_t n, uint16_t w,
+                         const uint16_t *ends, size_t ends_length,
+                         const uint16_t *table, size_t table_length,
+                         uint16_t *values, size_t values_length);
+
+/*
+ * The planning program as a function: what it prints for a text.
+ *
+ * In: `text`, a line "n w m", then m lines of two ends.
+ * Out: the front of `out`, a line "plan n w m", a line of counts and a line for
+ * each request, or the one line "refused" with the number of the ground. Gives
+ * the number of bytes written, at most 8,192; an `out` of fewer than 8,192
+ * bytes gets nothing, and the result is 0.
+ */
+size_t tarziloen_answer(const uint8_t *text, size_t text_length,
+                        uint8_t *out, size_t out_length);
+
+/*
+ * A book lies in a buffer of the caller's, in its stored form, which has a
+ * multiple of 512 and at most 5,120 bytes. A change reads it there, acts, and
+ * writes it back; the bytes behind the stored form stay as they are. A buffer
+ * of TARZILOEN_BOOK_BYTES has room for every book.
+ */
+
+/*
+ * Opens a book on a ring of n nodes with w colours.
+ *
+ * Out: `buffer`, the book. Values: the length of its stored form.
+ * Refused: 1, 2, 17.
+ */
+uint16_t tarziloen_book_open(uint16_t n, uint16_t w,
+                             uint8_t *buffer, size_t buffer_length,
+                             uint16_t *values, size_t values_length);
+
+/*
+ * Grants a circuit between the nodes x and y, in any order.
+ *
+ * In: the first `length` bytes of `buffer`, the book; the way, 0 plain or
+ * 1 seam; the colour. Out: `buffer`, the book with the circuit. Values: the
+ * serial of the order, which rises from 1 and is never given twice; the length
+ * of the stored form.
+ * Refused: 18, 19, 20, then 4, 5, 9 to 13, then 17.
+ */
+uint16_t tarziloen_book_grant(uint8_t *buffer, size_t buffer_length,
+                              size_t length,
+                              uint16_t x, uint16_t y, uint16_t way, uint16_t colour,
+                              uint16_t *values, size_t values_length);
+
+/*
+ * Removes an order: its colour is free again on every link of its way.
+ *
+ * In: the first `length` bytes of `buffer`, the book; the serial of the order.
+ * Out: `buffer`, the book without it. Values: the length of the stored form.
+ * Refused: 18, 19, 20, then 14, 15. The stored form never grows, so 17 does
+ * not come.
+ */
+uint16_t tarziloen_book_remove(uint8_t *buffer, size_t buffer_length,
+                               size_t length,
+                               uint16_t serial,
+                               uint16_t *values, size_t values_length);
+
+/*
+ * Shows an order.
+ *
+ * In: `bytes`, the book, no byte more; the serial of the order. Values: a, b,
+ * the way (0 plain, 1 seam), the colour.
+ * Refused: 18, 19, 20, then 14, 15.
+ */
+uint16_t tarziloen_book_show(const uint8_t *bytes, size_t bytes_length,
+                             uint16_t serial,
+                             uint16_t *values, size_t values_length);
+
+/*
+ * Says who holds a colour on a link.
+ *
+ * In: `bytes`, the book, no byte more; the link; the colour. Values: the serial
+ * of the order that holds it, or 0 if it is free.
+ * Refused: 18, 19, 20, then 16, 10.
+ */
+uint16_t tarziloen_book_holder(const uint8_t *bytes, size_t bytes_length,
+                               uint16_t link, uint16_t colour,
+                               uint16_t *values, size_t values_length);
+
+#ifdef __cplusplus
+}
+#endif
+
+#endif

@@ -1,0 +1,124 @@
+/*
+ * Calls every function of tarziloen.h, on cases T1 and T7 of the rules and on
+ * the refusals of a book in a buffer; prints each answer that is another one.
+ *
+ * From the top folder, after `rt staticlib export`:
+ *
+ *     cc -std=c99 -Wall -Wextra -pedantic -Iinclude include/test.c target/staticlib/libexport.a -o target/test_c && target/test_c
+ */
+#include "tarziloen.h"
+
+#include <stdio.h>
+#include <string.h>
+
+static int failures;
+
+static void expect(const char *what, size_t got, size_t wanted)
+{
+    if (got != wanted) {
+        printf("%s: %zu, not %zu\n", what, got, wanted);
+        failures++;
+    }
+}
+
+static void plan_and_check(void)
+{
+    const uint16_t ends[8] = {0, 3, 3, 6, 6, 0, 1, 4};
+    uint16_t table[4] = {9, 9, 9, 9};
+    uint16_t values[4] = {9, 9, 9, 9};
+
+    expect("short table", tarziloen_plan(8, 1, ends, 8, table, 3, values, 4), 6);
+    expect("untouched table", table[0], 9);
+    expect("plan", tarziloen_plan(8, 1, ends, 8, table, 4, values, 4), 0);
+    expect("chain", values[0], 2);
+    expect("match", values[1], 2);
+    expect("pair", values[2], 2);
+    expect("part", values[3], 0);
+    expect("request 0", table[0], 1);
+    expect("request 3", table[3], 0);
+    expect("check", tarziloen_check(8, 1, ends, 8, table, 4, values, 4), 0);
+    expect("served", values[0], 2);
+    table[3] = 1;
+    expect("conflict", tarziloen_check(8, 1, ends, 8, table, 4, values, 4), 8);
+    expect("first", values[0], 0);
+    expect("second", values[1], 3);
+}
+
+static void answer(void)
+{
+    const char text[] = "8 1 4\n0 3\n3 6\n6 0\n1 4\n";
+    const char wanted[] = "plan 8 1 4\nchain 2 match 2 pair 2 used chain\n0 P 0\n1 P 0\n2 B\n3 B\n";
+    const uint8_t *bytes = (const uint8_t *)text;
+    uint8_t out[TARZILOEN_ANSWER_BYTES];
+    size_t length = tarziloen_answer(bytes, strlen(text), out, sizeof out);
+
+    expect("length of the answer", length, strlen(wanted));
+    expect("its text", memcmp(out, wanted, strlen(wanted)) == 0, 1);
+    expect("length of a refusal", tarziloen_answer(bytes, 3, out, sizeof out), 11);
+    expect("refusal", memcmp(out, "refused 21\n", 11) == 0, 1);
+    expect("short output", tarziloen_answer(bytes, strlen(text), out, sizeof out - 1), 0);
+}
+
+static void book(void)
+{
+    uint8_t buffer[TARZILOEN_BOOK_BYTES] = {0};
+    uint8_t before[TARZILOEN_BOOK_BYTES];
+    uint16_t values[4] = {0};
+
+    expect("open", tarziloen_book_open(4, 1, buffer, sizeof buffer, values, 4), 0);
+    expect("length of a new book", values[0], 512);
+    expect("{0,2}", tarziloen_book_grant(buffer, sizeof buffer, 512, 0, 2, 0, 0, values, 4), 0);
+    expect("its serial", values[0], 1);
+    expect("length of a book", values[1], 1024);
+    expect("{2,3}", tarziloen_book_grant(buffer, sizeof buffer, 1024, 2, 3, 0, 0, values, 4), 0);
+    expect("its serial", values[0], 2);
+    memcpy(before, buffer, sizeof buffer);
+    expect("{1,3}", tarziloen_book_grant(buffer, sizeof buffer, 1024, 1, 3, 0, 0, values, 4), 11);
+    expect("same buffer", memcmp(buffer, before, sizeof buffer) == 0, 1);
+    expect("remove 1", tarziloen_book_remove(buffer, sizeof buffer, 1024, 1, values, 4), 0);
+    expect("length after it", values[0], 1024);
+    expect("{0,2} seam", tarziloen_book_grant(buffer, sizeof buffer, 1024, 0, 2, 1, 0, values, 4), 11);
+    expect("{0,1}", tarziloen_book_grant(buffer, sizeof buffer, 1024, 1, 0, 0, 0, values, 4), 0);
+    expect("its serial", values[0], 3);
+    expect("show 1", tarziloen_book_show(buffer, 1024, 1, values, 4), 15);
+    expect("show 4", tarziloen_book_show(buffer, 1024, 4, values, 4), 14);
+    expect("show 2", tarziloen_book_show(buffer, 1024, 2, values, 4), 0);
+    expect("a", values[0], 2);
+    expect("b", values[1], 3);
+    expect("way", values[2], 0);
+    expect("colour", values[3], 0);
+    expect("link 0", tarziloen_book_holder(buffer, 1024, 0, 0, values, 4), 0);
+    expect("its holder", values[0], 3);
+    expect("link 1", tarziloen_book_holder(buffer, 1024, 1, 0, values, 4), 0);
+    expect("free", values[0], 0);
+    expect("link 4", tarziloen_book_holder(buffer, 1024, 4, 0, values, 4), 16);
+    expect("colour 1", tarziloen_book_holder(buffer, 1024, 0, 1, values, 4), 10);
+}
+
+static void refusals(void)
+{
+    uint8_t buffer[1024] = {7};
+    uint16_t values[2] = {0};
+
+    expect("2 nodes", tarziloen_book_open(2, 1, buffer, sizeof buffer, values, 2), 1);
+    expect("129 colours", tarziloen_book_open(4, 129, buffer, sizeof buffer, values, 2), 2);
+    expect("short buffer", tarziloen_book_open(4, 1, buffer, 511, values, 2), 17);
+    expect("untouched buffer", buffer[0], 7);
+    expect("open", tarziloen_book_open(4, 1, buffer, sizeof buffer, values, 2), 0);
+    expect("no room for a circuit", tarziloen_book_grant(buffer, 1023, 512, 0, 2, 0, 0, values, 2), 17);
+    expect("length past the buffer", tarziloen_book_remove(buffer, 511, 512, 1, values, 2), 18);
+    expect("length of no form", tarziloen_book_show(buffer, 511, 1, values, 2), 18);
+    buffer[4] ^= 1;
+    expect("changed byte", tarziloen_book_holder(buffer, 512, 0, 0, values, 2), 19);
+    expect("changed byte", tarziloen_book_grant(buffer, sizeof buffer, 512, 0, 0, 2, 9, values, 2), 19);
+}
+
+int main(void)
+{
+    plan_and_check();
+    answer();
+    book();
+    refusals();
+    printf(failures == 0 ? "ok\n" : "failed\n");
+    return failures != 0;
+}
