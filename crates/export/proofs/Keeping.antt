@@ -78,11 +78,11 @@ open-keeps n w buffer bytes size = go (opened n w .answer) refl
 
 -- changes of a book that the buffer holds
 module _ (b : Book) (buffer : List ℕ) (size : ℕ) (h : Holds buffer size b) where
-  on-book : (f : Book → Outcome) → loadOutcome (loaded (front size buffer) .answer) (f (loaded (front size buffer) .book)) ≡ f b
+  pub on-book : (f : Book → Outcome) → loadOutcome (loaded (front size buffer) .answer) (f (loaded (front size buffer) .book)) ≡ f b
   on-book f = ap (λ (l : Loaded). loadOutcome (l .answer) (f (l .book))) h
 
-  valid : Valid b
-  valid = loaded-valid (front size buffer) (sym h) refl
+  pub held-valid : Valid b
+  held-valid = loaded-valid (front size buffer) (sym h) refl
 
   grant-keeps : (x y way colour : ℕ) (bytes : List ℕ) (serial new : ℕ) → grantCall buffer size x y way colour ≡ Written (serial ∷ new ∷ []) bytes → (granted b x y way colour .answer ≡ grant.Granted serial) × Holds bytes new (granted b x y way colour .book)
   unfolding grantCall
@@ -90,7 +90,7 @@ module _ (b : Book) (buffer : List ℕ) (size : ℕ) (h : Holds buffer size b) w
     where
       go : (a : GrantAnswer) → granted b x y way colour .answer ≡ a → grantOutcome a (granted b x y way colour .book) buffer ≡ Written (serial ∷ new ∷ []) bytes → (granted b x y way colour .answer ≡ grant.Granted serial) × Holds bytes new (granted b x y way colour .book)
       go (grant.Granted s) f g =
-          let t = stored-holds (s ∷ []) (granted b x y way colour .book) (keeps-valid .granting b valid x y way colour) buffer (serial ∷ new ∷ []) bytes g in
+          let t = stored-holds (s ∷ []) (granted b x y way colour .book) (keeps-valid .granting b held-valid x y way colour) buffer (serial ∷ new ∷ []) bytes g in
           let same : lengthOf (granted b x y way colour .book) ≡ new = cc (t .0) in
           let z : s ≡ serial = cc (t .0) in
           (f ∙ ap grant.Granted z, subst (λ (k : ℕ). Holds bytes k (granted b x y way colour .book)) same (t .1))
@@ -102,7 +102,7 @@ module _ (b : Book) (buffer : List ℕ) (size : ℕ) (h : Holds buffer size b) w
     where
       go : (a : RemoveAnswer) → removed b serial .answer ≡ a → removeOutcome a (removed b serial .book) buffer ≡ Written (new ∷ []) bytes → (removed b serial .answer ≡ remove.Removed) × Holds bytes new (removed b serial .book)
       go remove.Removed f g =
-          let t = stored-holds [] (removed b serial .book) (keeps-valid .removing b valid serial) buffer (new ∷ []) bytes g in
+          let t = stored-holds [] (removed b serial .book) (keeps-valid .removing b held-valid serial) buffer (new ∷ []) bytes g in
           let z : lengthOf (removed b serial .book) ≡ new = cc (t .0) in
           (f, subst (λ (k : ℕ). Holds bytes k (removed b serial .book)) z (t .1))
       go (remove.Refused r) f g = let z : _≡_ {A = ℕ} 0 1 = cc in absurd (omega arith)

@@ -2,6 +2,7 @@
 use Prim.Native.Nat.{ℕ}
 use mathlib.Core.Path.{_≡_}
 use mathlib.Core.List.{List, [], _∷_}
+use Rattle.ring.specs.declared.refusals.Refusal.the-variants.{BufferShort}
 use Rattle.book.specs.declared.books.Book.{Book}
 use Rattle.book.specs.declared.grants.GrantAnswer.the-variants.{Granted}
 use Rattle.book.specs.declared.removals.RemoveAnswer.the-variants.{Removed}
@@ -10,7 +11,7 @@ use Rattle.book.specs.Grants.{granted}
 use Rattle.book.specs.Removals.{removed}
 use Rattle.stored.specs.declared.loads.LoadAnswer.the-variants.{Loaded}
 use Rattle.stored.specs.Loading.{loaded}
-use Rattle.export.specs.Outcomes.{Outcome, Written, resultOf, bufferOf}
+use Rattle.export.specs.Outcomes.{Outcome, Written, Refused, resultOf, bufferOf}
 use Rattle.export.specs.BookCalls.{front, openCall, grantCall, removeCall}
 
 -- a call whose result is not 0 leaves the buffer as it is
@@ -29,3 +30,7 @@ pub record KeepsBook : Type 0 where
       → (granted b x y way colour .answer ≡ Granted serial) × Holds bytes size (granted b x y way colour .book)
   pub removing : (b : Book) (buffer : List ℕ) (length : ℕ) → Holds buffer length b → (serial : ℕ) (bytes : List ℕ) (size : ℕ) → removeCall buffer length serial ≡ Written (size ∷ []) bytes
       → (removed b serial .answer ≡ Removed) × Holds bytes size (removed b serial .book)
+
+-- a removal needs no more room than the book had: 17 does not come
+abbrev pub RemovalFits : Type 0
+RemovalFits = (b : Book) (buffer : List ℕ) (length : ℕ) → Holds buffer length b → (serial : ℕ) → removeCall buffer length serial ≡ Refused BufferShort → ⊥
