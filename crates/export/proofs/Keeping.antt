@@ -1,4 +1,4 @@
--- A refused call leaves the buffer; an accepted change leaves the changed book in it.
+-- A refused call leaves the buffer; a length past it is refused; an accepted change leaves the changed book in it.
 use Prim.Native.Nat.{ℕ, _≤_}
 use mathlib.Core.Path.{_≡_, refl, sym, _∙_, ap, subst}
 use mathlib.Core.Bool.{Bool, true, false, cond}
@@ -26,18 +26,23 @@ use Rattle.stored.specs.declared.stores.StoreAnswer.the-variants as store
 use Rattle.stored.specs.declared.loads.Loaded.{Loaded}
 use Rattle.stored.specs.Forms.{storedForm}
 use Rattle.stored.specs.Storing.{lengthOf, storeAnswer, afterStore}
-use Rattle.stored.specs.Loading.{loaded}
+use Rattle.stored.specs.Loading.{lengthWrong, loaded}
 use Rattle.stored.proofs.StoreLaws.{form-length}
+use Rattle.stored.proofs.LoadLaws.{load-length}
 use Rattle.stored.proofs.Promised.{reads-back}
 use Rattle.export.specs.Outcomes.{Outcome, Given, Written, Refused}
 use Rattle.export.specs.BookCalls.{front, loadOutcome, storeOutcome, storing, openOutcome, grantOutcome, removeOutcome, grantOn, removeOn, openCall, grantCall, removeCall}
-use Rattle.export.specs.Promises.{RefusedLeaves, Holds, KeepsBook}
-use Rattle.export.proofs.OutcomeLaws.{front-whole, loaded-valid}
+use Rattle.export.specs.Promises.{RefusedLeaves, LengthPast, Holds, KeepsBook}
+use Rattle.export.proofs.OutcomeLaws.{front-short, front-whole, loaded-valid}
 
 pub refused-leaves : RefusedLeaves
 refused-leaves (Given values) buffer h = refl
 refused-leaves (Written values bytes) buffer h = absurd (h refl)
 refused-leaves (Refused r) buffer h = refl
+
+pub length-past : LengthPast
+unfolding lengthWrong
+length-past buffer size h = ap (λ (l : List ℕ). loaded l .answer) (sym (front-short size buffer h)) ∙ ap (λ (l : Loaded). l .answer) (sym (load-length [] refl))
 
 -- a stored form with other bytes behind it
 front-form : (b : Book) (rest : List ℕ) → front (lengthOf b) (storedForm b ++ rest) ≡ storedForm b

@@ -1,4 +1,4 @@
--- The laws that the functions' proofs cite, and the theorems whose statements stand in specs/: Keeping (RefusedLeaves, KeepsBook), Room (RemovalFits).
+-- The laws that the functions' proofs cite, and the theorems whose statements stand in specs/: Keeping (RefusedLeaves, LengthPast, KeepsBook), Room (RemovalFits).
 pub mod OutcomeLaws
 pub mod Keeping
 pub mod Room
