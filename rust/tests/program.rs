@@ -1,6 +1,8 @@
-//! The planning program, on its samples and on every way of breaking the form of its input.
+//! The planning program, on its samples and on every way of breaking the form of its input; the library answers alike.
 use std::io::{Read, Write};
 use std::process::{Command, Stdio};
+
+use ring_planner::answer;
 
 /// What the program prints for an input that comes in pieces of the given size.
 fn output(input: &[u8], piece: usize) -> String {
@@ -26,6 +28,7 @@ fn output(input: &[u8], piece: usize) -> String {
         .read_to_string(&mut text)
         .unwrap();
     assert!(child.wait().unwrap().success());
+    assert_eq!(text.as_bytes(), answer(input));
     text
 }
 

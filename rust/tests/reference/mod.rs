@@ -1,5 +1,9 @@
-//! A second planner and checker by other algorithms, for comparison. Used by the other tests as a module.
+//! A second planner, checker and book by other algorithms, for comparison. Used by the other tests as a module.
 #![allow(dead_code)]
+
+pub mod books;
+pub mod draws;
+pub mod stored;
 
 /// A deterministic generator of test data.
 pub struct Random(u64);

@@ -1,0 +1,101 @@
+//! The book.
+
+use std::fmt;
+
+use crate::{buffers, Refusal};
+
+/// One of the two ways between two nodes of the ring.
+#[derive(Clone, Copy, Debug, PartialEq, Eq)]
+pub enum Way {
+    Plain = 0,
+    Seam = 1,
+}
+
+/// A circuit: its ends, the smaller first, its way and its colour.
+#[derive(Clone, Copy, Debug, PartialEq, Eq)]
+pub struct Circuit {
+    pub a: u16,
+    pub b: u16,
+    pub way: Way,
+    pub colour: u16,
+}
+
+/// A book, held as its stored form. Two books are equal if n, w, grants so far and live circuits agree.
+#[derive(Clone)]
+pub struct Book {
+    buffer: [u8; Book::MAX_LENGTH],
+    length: usize,
+}
+
+impl Book {
+    /// The length of the longest stored form, that of 512 live circuits.
+    pub const MAX_LENGTH: usize = 5120;
+
+    /// An empty book of n nodes and w colours.
+    pub fn open(n: u16, w: u16) -> Result<Book, Refusal> {
+        let mut buffer = [0; Book::MAX_LENGTH];
+        let length = buffers::open(n, w, &mut buffer)?;
+        Ok(Book { buffer, length })
+    }
+
+    /// The book of a stored form.
+    pub fn from_bytes(bytes: &[u8]) -> Result<Book, Refusal> {
+        // No circuit has serial 0: the refusal is 14 if the bytes load, and the load's own if they do not.
+        if let Err(refusal) = buffers::show(bytes, 0) {
+            if refusal.number != 14 {
+                return Err(refusal);
+            }
+        }
+        let mut buffer = [0; Book::MAX_LENGTH];
+        buffer[..bytes.len()].copy_from_slice(bytes);
+        Ok(Book {
+            buffer,
+            length: bytes.len(),
+        })
+    }
+
+    /// The stored form.
+    pub fn bytes(&self) -> &[u8] {
+        &self.buffer[..self.length]
+    }
+
+    /// Grants a circuit between two nodes; gives its serial.
+    pub fn grant(&mut self, x: u16, y: u16, way: Way, colour: u16) -> Result<u16, Refusal> {
+        let (serial, length) =
+            buffers::grant(&mut self.buffer, self.length, [x, y], way as u16, colour)?;
+        self.length = length;
+        Ok(serial)
+    }
+
+    /// Removes the circuit of a serial.
+    pub fn remove(&mut self, serial: u16) -> Result<(), Refusal> {
+        self.length = buffers::remove(&mut self.buffer, self.length, serial)?;
+        Ok(())
+    }
+
+    /// Shows the circuit of a serial.
+    pub fn show(&self, serial: u16) -> Result<Circuit, Refusal> {
+        buffers::show(self.bytes(), serial)
+    }
+
+    /// The serial of the circuit that holds a colour on a link, or none if it is free.
+    pub fn holder(&self, link: u16, colour: u16) -> Result<Option<u16>, Refusal> {
+        buffers::holder(self.bytes(), link, colour)
+    }
+}
+
+impl PartialEq for Book {
+    fn eq(&self, other: &Book) -> bool {
+        self.bytes() == other.bytes()
+    }
+}
+
+impl Eq for Book {}
+
+impl fmt::Debug for Book {
+    fn fmt(&self, f: &mut fmt::Formatter<'_>) -> fmt::Result {
+        f.debug_struct("Book")
+            .field("bytes", &self.bytes())
+            .finish()
+    }
+}

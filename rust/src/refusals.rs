@@ -1,0 +1,75 @@
+//! Refusals.
+
+use std::error::Error;
+use std::fmt;
+
+/// Why a call was turned down: the rules' number, and the request numbers that it carries.
+#[derive(Clone, Copy, Debug, PartialEq, Eq)]
+pub struct Refusal {
+    pub number: u16,
+    pub values: [u16; 2],
+}
+
+impl Refusal {
+    /// The refusal of a result that is not 0. A ground that carries less than two numbers leaves zeros.
+    pub(crate) fn new(number: u16, values: [u16; 4]) -> Self {
+        Refusal {
+            number,
+            values: [values[0], values[1]],
+        }
+    }
+
+    /// The ground, in the words of the rules.
+    pub fn ground(self) -> &'static str {
+        match self.number {
+            1 => "n not 3 to 256",
+            2 => "w not 1 to 128",
+            3 => "more than 512 requests, or an odd number of ends",
+            4 => "an end is n or more",
+            5 => "equal ends",
+            6 => "the plan table has fewer than m entries",
+            7 => "a number above 2w",
+            8 => "two requests of one colour share a link",
+            9 => "way not 0 (plain) or 1 (seam)",
+            10 => "colour w or more",
+            11 => "that colour is held on a link of the way",
+            12 => "512 circuits live",
+            13 => "serial 65,535 has been given",
+            14 => "serial 0 or never given",
+            15 => "removed",
+            16 => "link n or more",
+            17 => "buffer shorter than the length",
+            18 => "length 0, not a multiple of 512, or above 5,120",
+            19 => "a wrong block number or check",
+            20 => "a record with fate number 0, or anything else that breaks the stored form",
+            21 => "more than 8,192 bytes, or a text not of the stated form",
+            _ => "unknown",
+        }
+    }
+}
+
+impl fmt::Display for Refusal {
+    fn fmt(&self, f: &mut fmt::Formatter<'_>) -> fmt::Result {
+        write!(f, "refused {}: {}", self.number, self.ground())
+    }
+}
+
+impl Error for Refusal {}
+
+#[cfg(test)]
+mod tests {
+    use super::Refusal;
+
+    #[test]
+    fn every_number_has_its_own_words() {
+        let words = |number| {
+            let values = [0, 0];
+            Refusal { number, values }.ground()
+        };
+        let mut all: Vec<&str> = (1..=21).map(words).collect();
+        all.sort();
+        all.dedup();
+        assert_eq!(all.len(), 21);
+        assert!(!all.contains(&words(0)) && words(0) == words(22));
+    }
+}

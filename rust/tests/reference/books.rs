@@ -1,0 +1,106 @@
+//! A second book: a map from serials to circuits, with the rules' refusals in their order.
+use std::collections::BTreeMap;
+
+use ring_planner::{Circuit, Way};
+
+#[derive(Clone, Debug, PartialEq, Eq)]
+pub struct NaiveBook {
+    pub n: u16,
+    pub w: u16,
+    pub grants: u16,
+    pub live: BTreeMap<u16, Circuit>,
+}
+
+/// Whether the circuit's way uses a link.
+pub fn uses(circuit: &Circuit, link: u16) -> bool {
+    let plain = circuit.a <= link && link < circuit.b;
+    match circuit.way {
+        Way::Plain => plain,
+        Way::Seam => !plain,
+    }
+}
+
+/// Whether two circuits on n nodes hold one colour on one link.
+pub fn conflict(n: u16, first: &Circuit, second: &Circuit) -> bool {
+    first.colour == second.colour && (0..n).any(|link| uses(first, link) && uses(second, link))
+}
+
+impl NaiveBook {
+    pub fn open(n: u16, w: u16) -> Result<Self, u16> {
+        if !(3..=256).contains(&n) {
+            return Err(1);
+        }
+        if !(1..=128).contains(&w) {
+            return Err(2);
+        }
+        Ok(NaiveBook {
+            n,
+            w,
+            grants: 0,
+            live: BTreeMap::new(),
+        })
+    }
+
+    pub fn grant(&mut self, [x, y]: [u16; 2], way: u16, colour: u16) -> Result<u16, u16> {
+        if x >= self.n || y >= self.n {
+            return Err(4);
+        }
+        if x == y {
+            return Err(5);
+        }
+        let way = match way {
+            0 => Way::Plain,
+            1 => Way::Seam,
+            _ => return Err(9),
+        };
+        if colour >= self.w {
+            return Err(10);
+        }
+        let circuit = Circuit {
+            a: x.min(y),
+            b: x.max(y),
+            way,
+            colour,
+        };
+        if self.live.values().any(|c| conflict(self.n, c, &circuit)) {
+            return Err(11);
+        }
+        if self.live.len() == 512 {
+            return Err(12);
+        }
+        if self.grants == 65535 {
+            return Err(13);
+        }
+        self.grants += 1;
+        self.live.insert(self.grants, circuit);
+        Ok(self.grants)
+    }
+
+    pub fn show(&self, serial: u16) -> Result<Circuit, u16> {
+        if serial == 0 || serial > self.grants {
+            return Err(14);
+        }
+        self.live.get(&serial).copied().ok_or(15)
+    }
+
+    pub fn remove(&mut self, serial: u16) -> Result<(), u16> {
+        self.show(serial)?;
+        self.live.remove(&serial);
+        Ok(())
+    }
+
+    pub fn holder(&self, link: u16, colour: u16) -> Result<Option<u16>, u16> {
+        if link >= self.n {
+            return Err(16);
+        }
+        if colour >= self.w {
+            return Err(10);
+        }
+        let holds = |c: &Circuit| c.colour == colour && uses(c, link);
+        Ok(self
+            .live
+            .iter()
+            .find(|(_, c)| holds(c))
+            .map(|(&serial, _)| serial))
+    }
+}

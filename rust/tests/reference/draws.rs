@@ -1,0 +1,48 @@
+//! Arguments for the calls on a book, now and then out of range.
+use super::books::NaiveBook;
+use super::Random;
+
+/// A number below the limit, now and then another one.
+pub fn draw(random: &mut Random, limit: u16) -> u16 {
+    match random.below(64) {
+        0 => limit,
+        1 => 65535,
+        2 => random.below(65536) as u16,
+        _ => random.below(limit as u64) as u16,
+    }
+}
+
+/// A grant's ends, way and colour: ways of few links for the most part, so that many fit.
+pub fn draw_grant(random: &mut Random, n: u16, w: u16) -> ([u16; 2], u16, u16) {
+    let x = draw(random, n);
+    let step = match random.below(8) {
+        0 => draw(random, n),
+        _ => 1 + random.below(3) as u16,
+    };
+    let y = if x < n {
+        x.wrapping_add(step) % n
+    } else {
+        step
+    };
+    let around = (x > y) != (random.below(16) == 0);
+    let way = match random.below(64) {
+        0 => random.below(65536) as u16,
+        _ => around as u16,
+    };
+    (
+        if random.below(2) == 0 { [x, y] } else { [y, x] },
+        way,
+        draw(random, w),
+    )
+}
+
+/// A serial, most often one that is live.
+pub fn draw_serial(random: &mut Random, naive: &NaiveBook) -> u16 {
+    match random.below(8) {
+        0 => draw(random, naive.grants.saturating_add(2)),
+        _ => {
+            let place = random.below(naive.live.len().max(1) as u64) as usize;
+            naive.live.keys().nth(place).copied().unwrap_or(1)
+        }
+    }
+}
