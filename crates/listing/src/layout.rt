@@ -15,7 +15,7 @@ ghost use Rattle.listing.specs.Layout.{labelled, planLine, partEnding, c
 ghost use Rattle.listing.specs.Writing.{FatesFit, PlanFits, Wrote};
 
 // A word and a number.
-fn put_labelled(out: &mut [u8], at: usize, word: &[u8], n: u16) -> usize
+pub fn put_labelled(out: &mut [u8], at: usize, word: &[u8], n: u16) -> usize
     requires { ⌜ at + (length (now word) + 5) ≤ length (now out) ⌝ }
     ensures { λ next. ⌜ Wrote (now (out .entry)) at (labelled (now (word .entry)) n) (now (out .exit)) next ⌝ }
 {
@@ -59,7 +59,7 @@ fn put_counts_line(out: &mut [u8], at: usize, counts: Summary) -> usize
 }
 
 // The way and the colour of a request that is served.
-fn put_way(out: &mut [u8], at: usize, way: Way, colour: u16) -> usize
+pub fn put_way(out: &mut [u8], at: usize, way: Way, colour: u16) -> usize
     requires { ⌜ at + 8 ≤ length (now out) ⌝ }
     ensures { λ next. ⌜ Wrote (now (out .entry)) at (wayEnding way colour) (now (out .exit)) next ⌝ }
 {

@@ -74,7 +74,7 @@ fn closing(close: u8, byte: u8, count: usize, value: u32, next: usize) -> FieldA
 }
 
 // The number at a position that the byte closes.
-fn field(text: &[u8], at: usize, close: u8) -> FieldAt
+pub fn field(text: &[u8], at: usize, close: u8) -> FieldAt
     requires { ⌜ at ≤ length (now text) ⌝ }
     ensures { λ r. ⌜ FieldRead close (now (text .entry)) at r ⌝ }
 {
@@ -93,7 +93,7 @@ fn field(text: &[u8], at: usize, close: u8) -> FieldAt
 }
 
 // The line of two ends at a position.
-fn line(text: &[u8], at: usize) -> LineAt
+pub fn line(text: &[u8], at: usize) -> LineAt
     requires { ⌜ at ≤ length (now text) ⌝ }
     ensures { λ r. ⌜ LineRead (now (text .entry)) at r ⌝ }
 {

@@ -1,0 +1,4 @@
+-- The laws that the functions' proofs cite.
+pub mod LineLaws
+pub mod ReplyLaws
+pub mod SessionLaws

@@ -1,0 +1,47 @@
+use borrow.Author.Tests.{not-true, not-false}
+use mathlib.Core.Path.{_∙_}
+use Rattle.commands.proofs.SessionLaws.{show-none, show-told}
+use borrow.Author.Needs.{needs}
+use Rattle.commands.proofs.sessions.answer_show.Statement.{statement}
+use Rattle.commands.proofs.sessions.answer_show.Tie as tie
+
+unchanged-requires : tie.Need-unchanged-requires
+unchanged-requires c κs = search needs
+
+returns : tie.Need-returns
+returns c = c .unchanged .ensures ∙ show-none (c .before .before .before .args .session) (not-true _ (c .before .if1 .taken)) (c .before .before .before .args .serial)
+
+show-requires : tie.Need-show-requires
+show-requires c κs = search needs
+
+enum-known-answer : tie.Need-enum-known-answer
+enum-known-answer c = search needs
+
+unchanged-requires-2 : tie.Need-unchanged-requires-2
+unchanged-requires-2 c κs = search needs
+
+enum-known-answer-2 : tie.Need-enum-known-answer-2
+enum-known-answer-2 c = search needs
+
+unchanged-requires-3 : tie.Need-unchanged-requires-3
+unchanged-requires-3 c κs = search needs
+
+returns-2 : tie.Need-returns-2
+returns-2 c = c .unchanged2 .ensures ∙ show-told (c .before .before .before .before .before .before .before .args .session) (not-false _ (c .before .before .before .before .before .if1 .left)) (c .before .before .before .before .before .before .before .args .serial) (c .before .before .before .before .show .ensures) (c .before .before .answer .given .1)
+
+returns-3 : tie.Need-returns-3
+returns-3 c = c .unchanged3 .ensures ∙ show-told (c .before .before .before .before .before .before .before .args .session) (not-false _ (c .before .before .before .before .before .if1 .left)) (c .before .before .before .before .before .before .before .args .serial) (c .before .before .before .before .show .ensures) (c .before .before .answer2 .given .1)
+
+pub answer-show-spec : {M : Type 1} → statement M
+answer-show-spec =
+    tie.close
+    (tie.spec
+    unchanged-requires
+    returns
+    show-requires
+    enum-known-answer
+    unchanged-requires-2
+    enum-known-answer-2
+    unchanged-requires-3
+    returns-2
+    returns-3)

@@ -1,0 +1,2 @@
+-- What the functions inside need of each other; no contract can say what is read or written.
+pub mod Files
