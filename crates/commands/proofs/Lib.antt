@@ -1,4 +1,8 @@
--- The laws that the functions' proofs cite.
+-- The laws that the functions' proofs cite, and the theorems whose statements stand in specs/:
+-- LongLines (KeptSays), SessionValidity (SessionKeepsValid).
 pub mod LineLaws
-pub mod ReplyLaws
+pub mod LongLines
 pub mod SessionLaws
+pub mod SessionValidity
+pub mod GroundLaws
+pub mod ReplyLaws

@@ -2,10 +2,12 @@
 use Prim.Native.Nat.{ℕ, zero, suc, _+_, _≤_, _<_}
 use mathlib.Core.Path.{_≡_, refl, sym, _∙_, ap}
 use mathlib.Core.Bool.{Bool, true, false, _&&_}
-use mathlib.Core.List.{List, [], _∷_}
+use mathlib.Core.List.{List, [], _∷_, _++_}
 use native.Mathlib.Omega.{arith}
 use lib.Dec.{eqb}
-use lib.ListN.{length, getD, drop, drop-of-length-le}
+use native.Mathlib.Numerals.{add-one}
+use lib.ListN.{length, getD, take, drop, set, length-append, length-set, drop-of-length-le}
+use lib.Seq.{take-all, take-length, take-append-seam, take-suc-set, length-take-le}
 use borrow.Author.Tests.{eq-eqb, ne-eqb}
 use Rattle.ring.proofs.Cases.{Compare, less, not-less, compare, impossible}
 use Rattle.listing.specs.Reading.{space, lineFeed, field, line, missing, found, broken, two}
@@ -21,7 +23,7 @@ use Rattle.commands.specs.declared.lines.Single.{Single}
 use Rattle.commands.specs.declared.lines.Single.the-variants as single
 use Rattle.commands.specs.declared.lines.Pair.{Pair}
 use Rattle.commands.specs.declared.lines.Pair.the-variants as pair
-use Rattle.commands.specs.Lines.{starts, ended, singleOf, pairOf, onPair, grantOf}
+use Rattle.commands.specs.Lines.{starts, ended, singleOf, pairOf, onPair, grantOf, Keeps}
 
 -- a text shorter than the word does not begin with it
 pub starts-short : (word text : List ℕ) → length text < length word → starts word text ≡ false
@@ -107,3 +109,17 @@ pub grant-two : {text : List ℕ} {at x behind y rest : ℕ} {r q : FieldAt} {p 
     → FieldRead space text behind q → q ≡ fieldAt.Found y rest → p ≡ pairOf (drop rest text) → p ≡ z → onPair z (λ way colour. Grant x y way colour) ≡ grantOf (drop at text)
 unfolding grantOf
 grant-two s e t f g m = rw (field-found s e .0, field-found t f .0, ← g, m) refl
+
+-- one byte more is kept, or there is no room for it
+pub keeps-more : (line : List ℕ) (kept byte : ℕ) → kept < length line → Keeps line kept byte (set line kept byte) (kept + 1)
+keeps-more line kept byte h =
+    let front : take (kept + 1) (set line kept byte) ≡ take kept line ++ (byte ∷ []) = rw add-one (take-suc-set line kept byte h) in
+    let size = length-take-le kept line (omega arith) in
+    let few : length (take kept line ++ (byte ∷ [])) ≤ length line = rw length-append (omega arith) in
+    record { within = rw length-set (omega arith); same = λ l. front ∙ sym (take-all (length line) (take kept line ++ (byte ∷ [])) few) }
+
+pub keeps-full : (line : List ℕ) (kept byte : ℕ) → length line ≤ kept → Keeps line kept byte line (length line)
+keeps-full line kept byte h = record {
+  within = omega arith;
+  same = λ l. take-length line ∙ (sym (take-append-seam line (byte ∷ [])) ∙ ap (λ (xs : List ℕ). take (length line) (xs ++ (byte ∷ []))) (sym (take-all kept line h)));
+}

@@ -5,7 +5,6 @@ use mathlib.Core.List.{List, _++_}
 use native.Mathlib.Omega.{arith}
 use lib.ListN.{length, drop}
 use Rattle.ring.specs.declared.refusals.Refusal.{Refusal}
-use Rattle.ring.specs.declared.refusals.Refusal.the-variants.{NodeCount, ColourCount, RequestCount, RequestEnd, RequestEndsEqual, TableShort, FateNumber, Conflict, CircuitEnd, CircuitEndsEqual, WayNumber, ColourNumber, ColourHeld, BookFull, SerialsUsedUp, SerialNeverGiven, SerialRemoved, LinkNumber, BufferShort, StoredLength, BlockCheck, StoredForm, TextForm}
 use Rattle.listing.specs.Writing.{Wrote}
 use Rattle.listing.proofs.WritingLaws.{wrote-length}
 use Rattle.listing.proofs.AnswerLaws.{wrote-front}
@@ -14,34 +13,8 @@ use Rattle.commands.specs.declared.sessions.Session.{Session}
 use Rattle.commands.specs.declared.sessions.Answered.{Answered}
 use Rattle.commands.specs.Lines.{commandOf}
 use Rattle.commands.specs.Sessions.{ValidSession, answered}
-use Rattle.commands.specs.Replies.{groundOf, refusedText, replyText}
+use Rattle.commands.specs.Replies.{refusedText, replyText}
 use Rattle.commands.specs.Promises.{Told, ObeyPromise, RefusalPromise}
-
--- no ground has more than 80 bytes
-pub ground-short : (r : Refusal) → length (groundOf r) ≤ 80
-ground-short NodeCount = omega arith
-ground-short ColourCount = omega arith
-ground-short RequestCount = omega arith
-ground-short (RequestEnd i) = omega arith
-ground-short (RequestEndsEqual i) = omega arith
-ground-short TableShort = omega arith
-ground-short (FateNumber i) = omega arith
-ground-short (Conflict i j) = omega arith
-ground-short CircuitEnd = omega arith
-ground-short CircuitEndsEqual = omega arith
-ground-short WayNumber = omega arith
-ground-short ColourNumber = omega arith
-ground-short ColourHeld = omega arith
-ground-short BookFull = omega arith
-ground-short SerialsUsedUp = omega arith
-ground-short SerialNeverGiven = omega arith
-ground-short SerialRemoved = omega arith
-ground-short LinkNumber = omega arith
-ground-short BufferShort = omega arith
-ground-short StoredLength = omega arith
-ground-short BlockCheck = omega arith
-ground-short StoredForm = omega arith
-ground-short TextForm = omega arith
 
 -- a text that was written from the start on
 pub told : {text before out : List ℕ} {size : ℕ} → Wrote before 0 text out size → Told text before out size

@@ -1,9 +1,10 @@
 -- What a line says. Its last byte is its line feed; a line without one is no command.
-use Prim.Native.Nat.{ℕ}
+use Prim.Native.Nat.{ℕ, _≤_}
+use mathlib.Core.Path.{_≡_}
 use mathlib.Core.Bool.{Bool, true, false, cond, _&&_}
-use mathlib.Core.List.{List, [], _∷_}
+use mathlib.Core.List.{List, [], _∷_, _++_}
 use lib.Dec.{eqb}
-use lib.ListN.{length, drop}
+use lib.ListN.{length, take, drop}
 use Rattle.listing.specs.Reading.{space, lineFeed, field, onField, line, onLine}
 use Rattle.commands.specs.declared.lines.Command.{Command}
 use Rattle.commands.specs.declared.lines.Command.the-variants.{Open, Grant, Remove, Show, Holder, Count, Unreadable}
@@ -81,3 +82,12 @@ commandOf text =
     (onWord (bytes "holder ") text holderOf
     (onWord (bytes "count\n") text countOf
     Unreadable)))))
+
+-- the promise that the first 64 bytes of a line say what the whole line says, so that no more of it need be kept
+abbrev pub KeptSays : Type 0
+KeptSays = (text : List ℕ) → commandOf (take 64 text) ≡ commandOf text
+
+-- a line of which these bytes are kept, with one byte more: as many of its first bytes are kept as there is room for
+pub record Keeps (line : List ℕ) (kept byte : ℕ) (after : List ℕ) (now : ℕ) : Type 0 where
+  pub within : now ≤ length after
+  pub same : kept ≤ length line → take now after ≡ take (length line) (take kept line ++ (byte ∷ []))

@@ -11,31 +11,31 @@ use Rattle.commands.specs.declared.sessions.Reply.{Reply}
 use Rattle.commands.specs.declared.sessions.Reply.the-variants.{Opened, Granted, Removed, Circuit, Free, Held, Count, Refused, BookOpen, NoBook, Unreadable}
 use Rattle.commands.specs.Texts.{bytes}
 
--- each ground in document 01's words
+-- each ground in document 01's words, to the end of the line
 abbrev pub groundOf : Refusal → List ℕ
-groundOf NodeCount = bytes "n not 3 to 256"
-groundOf ColourCount = bytes "w not 1 to 128"
-groundOf RequestCount = bytes "more than 512 requests, or an odd number of ends"
-groundOf (RequestEnd i) = bytes "an end is n or more"
-groundOf (RequestEndsEqual i) = bytes "equal ends"
-groundOf TableShort = bytes "the plan table has fewer than m entries"
-groundOf (FateNumber i) = bytes "a number above 2w"
-groundOf (Conflict i j) = bytes "two requests of one colour share a link"
-groundOf CircuitEnd = bytes "an end is n or more"
-groundOf CircuitEndsEqual = bytes "equal ends"
-groundOf WayNumber = bytes "way not 0 (plain) or 1 (seam)"
-groundOf ColourNumber = bytes "colour w or more"
-groundOf ColourHeld = bytes "that colour is held on a link of the way"
-groundOf BookFull = bytes "512 circuits live"
-groundOf SerialsUsedUp = bytes "serial 65,535 has been given"
-groundOf SerialNeverGiven = bytes "serial 0 or never given"
-groundOf SerialRemoved = bytes "removed"
-groundOf LinkNumber = bytes "link n or more"
-groundOf BufferShort = bytes "buffer shorter than the length"
-groundOf StoredLength = bytes "length 0, not a multiple of 512, or above 5,120"
-groundOf BlockCheck = bytes "a wrong block number or check"
-groundOf StoredForm = bytes "a record with fate number 0, or anything else that breaks the stored form"
-groundOf TextForm = bytes "more than 8,192 bytes, or a text not of the stated form"
+groundOf NodeCount = bytes "n not 3 to 256\n"
+groundOf ColourCount = bytes "w not 1 to 128\n"
+groundOf RequestCount = bytes "more than 512 requests, or an odd number of ends\n"
+groundOf (RequestEnd i) = bytes "an end is n or more\n"
+groundOf (RequestEndsEqual i) = bytes "equal ends\n"
+groundOf TableShort = bytes "the plan table has fewer than m entries\n"
+groundOf (FateNumber i) = bytes "a number above 2w\n"
+groundOf (Conflict i j) = bytes "two requests of one colour share a link\n"
+groundOf CircuitEnd = bytes "an end is n or more\n"
+groundOf CircuitEndsEqual = bytes "equal ends\n"
+groundOf WayNumber = bytes "way not 0 (plain) or 1 (seam)\n"
+groundOf ColourNumber = bytes "colour w or more\n"
+groundOf ColourHeld = bytes "that colour is held on a link of the way\n"
+groundOf BookFull = bytes "512 circuits live\n"
+groundOf SerialsUsedUp = bytes "serial 65,535 has been given\n"
+groundOf SerialNeverGiven = bytes "serial 0 or never given\n"
+groundOf SerialRemoved = bytes "removed\n"
+groundOf LinkNumber = bytes "link n or more\n"
+groundOf BufferShort = bytes "buffer shorter than the length\n"
+groundOf StoredLength = bytes "length 0, not a multiple of 512, or above 5,120\n"
+groundOf BlockCheck = bytes "a wrong block number or check\n"
+groundOf StoredForm = bytes "a record with fate number 0, or anything else that breaks the stored form\n"
+groundOf TextForm = bytes "more than 8,192 bytes, or a text not of the stated form\n"
 
 -- a word and a number, on a line
 unfoldable pub numbered : List ℕ → ℕ → List ℕ
@@ -51,7 +51,7 @@ circuitText a b way colour = labelled (bytes "circuit ") a ++ (labelled (space �
 
 -- `refused NUMBER` and the ground
 unfoldable pub refusedText : Refusal → List ℕ
-refusedText r = labelled (bytes "refused ") (numberOf r) ++ ((space ∷ []) ++ (groundOf r ++ (lineFeed ∷ [])))
+refusedText r = labelled (bytes "refused ") (numberOf r) ++ ((space ∷ []) ++ groundOf r)
 
 -- the line of each reply
 abbrev pub replyText : Reply → List ℕ

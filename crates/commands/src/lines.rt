@@ -6,7 +6,7 @@ use listing::reading::line;
 ghost use mathlib.Core.Path.{_≡_};
 ghost use Prim.Native.Nat.{_≤_};
 ghost use lib.ListN.{length, drop};
-ghost use Rattle.commands.specs.Lines.{starts, singleOf, pairOf, openOf, grantOf, removeOf, showOf, holderOf, countOf, commandOf};
+ghost use Rattle.commands.specs.Lines.{starts, singleOf, pairOf, openOf, grantOf, removeOf, showOf, holderOf, countOf, commandOf, Keeps};
 
 pub enum Command {
     Open(u16, u16),
@@ -173,4 +173,16 @@ pub fn read(text: &[u8]) -> Command
         return count_at(text, 6);
     }
     Command::Unreadable
+}
+
+// Takes one byte more into the present line, of which only the front is kept, as much as there is room for.
+pub fn keep(line: &mut [u8], kept: usize, byte: u8) -> usize
+    ensures { λ r. ⌜ Keeps (now (line .entry)) kept byte (now (line .exit)) r ⌝ }
+{
+    if kept < line.len() {
+        line[kept] = byte;
+        kept + 1
+    } else {
+        line.len()
+    }
 }

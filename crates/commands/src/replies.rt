@@ -42,44 +42,72 @@ fn put_circuit(out: &mut [u8], a: u16, b: u16, way: Way, colour: u16) -> usize
     put_byte(out, next, b'\n')
 }
 
-// A ground in words.
+// The lines of the grounds, in the order of their numbers from 1.
+const GROUNDS: [u8; 629] = *b"n not 3 to 256\n\
+w not 1 to 128\n\
+more than 512 requests, or an odd number of ends\n\
+an end is n or more\n\
+equal ends\n\
+the plan table has fewer than m entries\n\
+a number above 2w\n\
+two requests of one colour share a link\n\
+way not 0 (plain) or 1 (seam)\n\
+colour w or more\n\
+that colour is held on a link of the way\n\
+512 circuits live\n\
+serial 65,535 has been given\n\
+serial 0 or never given\n\
+removed\n\
+link n or more\n\
+buffer shorter than the length\n\
+length 0, not a multiple of 512, or above 5,120\n\
+a wrong block number or check\n\
+a record with fate number 0, or anything else that breaks the stored form\n\
+more than 8,192 bytes, or a text not of the stated form\n";
+
+// The position behind the line of each ground.
+const ENDS: [u16; 22] = [
+    0,
+    15,
+    30,
+    79,
+    99,
+    110,
+    150,
+    168,
+    208,
+    238,
+    255,
+    296,
+    314,
+    343,
+    367,
+    375,
+    390,
+    421,
+    469,
+    499,
+    573,
+    629,
+];
+
+fn wide(x: u16) -> usize
+    ensures { λ r. ⌜ r ≡ x ⌝ }
+{
+    x as usize
+}
+
+// A ground in words, to the end of its line.
 fn put_ground(out: &mut [u8], at: usize, refusal: Refusal) -> usize
     requires { ⌜ at + 80 ≤ length (now out) ⌝ }
     ensures { λ next. ⌜ Wrote (now (out .entry)) at (groundOf refusal) (now (out .exit)) next ⌝ }
 {
-    match refusal {
-        Refusal::NodeCount => put(out, at, b"n not 3 to 256"),
-        Refusal::ColourCount => put(out, at, b"w not 1 to 128"),
-        Refusal::RequestCount => put(out, at, b"more than 512 requests, or an odd number of ends"),
-        Refusal::RequestEnd(_) => put(out, at, b"an end is n or more"),
-        Refusal::RequestEndsEqual(_) => put(out, at, b"equal ends"),
-        Refusal::TableShort => put(out, at, b"the plan table has fewer than m entries"),
-        Refusal::FateNumber(_) => put(out, at, b"a number above 2w"),
-        Refusal::Conflict(_, _) => put(out, at, b"two requests of one colour share a link"),
-        Refusal::CircuitEnd => put(out, at, b"an end is n or more"),
-        Refusal::CircuitEndsEqual => put(out, at, b"equal ends"),
-        Refusal::WayNumber => put(out, at, b"way not 0 (plain) or 1 (seam)"),
-        Refusal::ColourNumber => put(out, at, b"colour w or more"),
-        Refusal::ColourHeld => put(out, at, b"that colour is held on a link of the way"),
-        Refusal::BookFull => put(out, at, b"512 circuits live"),
-        Refusal::SerialsUsedUp => put(out, at, b"serial 65,535 has been given"),
-        Refusal::SerialNeverGiven => put(out, at, b"serial 0 or never given"),
-        Refusal::SerialRemoved => put(out, at, b"removed"),
-        Refusal::LinkNumber => put(out, at, b"link n or more"),
-        Refusal::BufferShort => put(out, at, b"buffer shorter than the length"),
-        Refusal::StoredLength => put(out, at, b"length 0, not a multiple of 512, or above 5,120"),
-        Refusal::BlockCheck => put(out, at, b"a wrong block number or check"),
-        Refusal::StoredForm => put(
-            out,
-            at,
-            b"a record with fate number 0, or anything else that breaks the stored form",
-        ),
-        Refusal::TextForm => put(
-            out,
-            at,
-            b"more than 8,192 bytes, or a text not of the stated form",
-        ),
-    }
+    let grounds = GROUNDS;
+    let ends = ENDS;
+    let line = wide(number(refusal));
+    let start = wide(ends[line - 1]);
+    let end = wide(ends[line]);
+    put(out, at, &grounds[start..end])
 }
 
 // A refusal's number, and its ground.
@@ -88,9 +116,8 @@ pub fn put_refused(out: &mut [u8], refusal: Refusal) -> usize
     ensures { λ next. ⌜ Wrote (now (out .entry)) 0 (refusedText refusal) (now (out .exit)) next ⌝ }
 {
     let first = put_labelled(out, 0, b"refused ", number(refusal));
-    let second = put_byte(out, first, b' ');
-    let next = put_ground(out, second, refusal);
-    put_byte(out, next, b'\n')
+    let next = put_byte(out, first, b' ');
+    put_ground(out, next, refusal)
 }
 
 // The line of a reply.

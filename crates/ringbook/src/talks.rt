@@ -1,5 +1,6 @@
 // The talk: lines in, answers out.
 use commands::Session;
+use commands::lines::keep;
 use commands::obey;
 use libc::STDIN_FILENO;
 use libc::STDOUT_FILENO;
@@ -24,18 +25,6 @@ fn obey_line(session: Session, line: &[u8]) -> Session {
     let length = obeyed.length;
     say(&out[..length]);
     obeyed.session
-}
-
-// Takes a byte into the present line. No command has more than 30 bytes, so that a line of which the first 64 are kept is as unreadable as the whole.
-fn keep(line: &mut [u8], kept: usize, byte: u8) -> usize
-    ensures { λ r. ⌜ r ≤ length (now (line .exit)) ⌝ }
-{
-    if kept < line.len() {
-        line[kept] = byte;
-        kept + 1
-    } else {
-        line.len()
-    }
 }
 
 // Takes the bytes that came, and obeys each line that they close.
@@ -85,6 +74,7 @@ fn listen(session: Session, line: &mut [u8], kept: usize) -> Turn
 
 // Talks to the end of the input. Nothing says that an input ends, so the loop counts its turns down, from a number that no run uses up.
 pub fn talk(session: Session) -> Session {
+    // No command has more than 30 bytes: what the first 64 bytes of a line say, the whole line says.
     let mut line = [0u8; 64];
     let mut state = session;
     let mut kept: usize = 0;

@@ -2,7 +2,6 @@ use native.Mathlib.Omega.{arith}
 use Rattle.commands.specs.Replies.{refusedText}
 use Rattle.listing.proofs.LayoutLaws.{labelled-short, room-left}
 use Rattle.listing.proofs.WritingLaws.{wrote-then}
-use Rattle.commands.proofs.ReplyLaws.{ground-short}
 use borrow.Author.Needs.{needs}
 use Rattle.commands.proofs.replies.put_refused.Statement.{statement}
 use Rattle.commands.proofs.replies.put_refused.Tie as tie
@@ -27,23 +26,15 @@ put-ground-requires c κs =
     let second = room-left 1 114 (c .before .before .before .put-byte .ensures) (omega arith) first in
     omega arith
 
-put-byte-requires-2 : tie.Need-put-byte-requires-2
-put-byte-requires-2 c κs =
-    let first = room-left 13 115 (c .before .before .before .before .before .before .before .before .before .before .before .put-labelled .ensures) (labelled-short _ _) (c .before .before .before .before .before .before .before .before .before .before .before .before .before .before .before .before .pre) in
-    let second = room-left 1 114 (c .before .before .before .before .before .before .before .put-byte .ensures) (omega arith) first in
-    let third = room-left 80 34 (c .before .before .before .put-ground .ensures) (ground-short (c .before .before .before .before .before .before .before .before .before .before .before .before .before .before .before .before .args .refusal)) second in
-    omega arith
-
 same-length : tie.Need-same-length
 same-length c = search needs
 
 returns : tie.Need-returns
 unfolding refusedText
 returns c =
-    rw (← c .before .before .before .before .before .before .before .before .before .before .before .before .before .before .before .number .ensures)
-    (wrote-then (c .before .before .before .before .before .before .before .before .before .before .before .before .before .before .put-labelled .ensures)
-    (wrote-then (c .before .before .before .before .before .before .before .before .before .before .put-byte .ensures)
-    (wrote-then (c .before .before .before .before .before .before .put-ground .ensures) (c .before .before .put-byte2 .ensures))))
+    rw (← c .before .before .before .before .before .before .before .before .before .before .before .number .ensures)
+    (wrote-then (c .before .before .before .before .before .before .before .before .before .before .put-labelled .ensures)
+    (wrote-then (c .before .before .before .before .before .before .put-byte .ensures) (c .before .before .put-ground .ensures)))
 
 pub put-refused-spec : {M : Type 1} → statement M
 put-refused-spec =
@@ -54,6 +45,5 @@ put-refused-spec =
     put-labelled-requires
     put-byte-requires
     put-ground-requires
-    put-byte-requires-2
     same-length
     returns)

@@ -27,7 +27,7 @@ slice-reshare-prefix-obey-line : tie.Need-slice-reshare-prefix-obey-line Inv-loo
 slice-reshare-prefix-obey-line c = search needs
 
 slice-aggregate-obey-line : tie.Need-slice-aggregate-obey-line Inv-loop μ-loop
-slice-aggregate-obey-line c = sym (length-take-le _ _ (c .before .before .before .before .keep .ensures))
+slice-aggregate-obey-line c = sym (length-take-le _ _ (c .before .before .before .before .keep .ensures .within))
 
 obey-line-requires : tie.Need-obey-line-requires Inv-loop μ-loop
 obey-line-requires c κs = search needs

@@ -1,8 +1,7 @@
-use native.Mathlib.Omega.{arith}
-use lib.ListN.{length-set}
+use Rattle.commands.proofs.LineLaws.{keeps-more, keeps-full}
 use borrow.Author.Needs.{needs}
-use Rattle.ringbook.proofs.talks.keep.Statement.{statement}
-use Rattle.ringbook.proofs.talks.keep.Tie as tie
+use Rattle.commands.proofs.lines.keep.Statement.{statement}
+use Rattle.commands.proofs.lines.keep.Tie as tie
 
 slice-write-line : tie.Need-slice-write-line
 slice-write-line c = search needs
@@ -14,10 +13,10 @@ same-length : tie.Need-same-length
 same-length c = search needs
 
 returns : tie.Need-returns
-returns c = simp length-set (omega arith)
+returns c = keeps-more (c .before .args .line .now) (c .before .args .kept) (c .before .args .byte) (c .if1 .taken)
 
 returns-2 : tie.Need-returns-2
-returns-2 c = search needs
+returns-2 c = keeps-full (c .before .args .line .now) (c .before .args .kept) (c .before .args .byte) (c .if1 .left)
 
 pub keep-spec : {M : Type 1} → statement M
 keep-spec = tie.close (tie.spec slice-write-line add-result same-length returns returns-2)
