@@ -1,5 +1,5 @@
 -- Words and numbers at positions of a line.
-use Prim.Native.Nat.{ℕ, zero, suc, _+_, _≤_, _<_}
+use Prim.Native.Nat.{ℕ, _+_, _≤_, _<_}
 use mathlib.Core.Path.{_≡_, refl, sym, _∙_, ap}
 use mathlib.Core.Bool.{Bool, true, false, _&&_}
 use mathlib.Core.List.{List, [], _∷_, _++_}
@@ -9,17 +9,15 @@ use native.Mathlib.Numerals.{add-one}
 use lib.ListN.{length, getD, take, drop, set, length-append, length-set, drop-of-length-le}
 use lib.Seq.{take-all, take-length, take-append-seam, take-suc-set, length-take-le}
 use borrow.Author.Tests.{eq-eqb, ne-eqb}
-use Rattle.ring.proofs.Cases.{Compare, less, not-less, compare, impossible}
-use Rattle.listing.specs.Reading.{space, lineFeed, field, line, missing, found, broken, two}
+use Rattle.ring.proofs.Cases.{less, not-less, compare, impossible}
+use Rattle.listing.specs.Reading.{space, lineFeed, line, found, two}
 use Rattle.listing.specs.Positions.{lineIn, FieldRead, LineRead}
 use Rattle.listing.specs.declared.reading.FieldAt.{FieldAt}
 use Rattle.listing.specs.declared.reading.FieldAt.the-variants as fieldAt
 use Rattle.listing.specs.declared.reading.LineAt.{LineAt}
 use Rattle.listing.specs.declared.reading.LineAt.the-variants as lineAt
 use Rattle.listing.proofs.ReadingLaws.{drop-next, field-found, field-lost}
-use Rattle.commands.specs.declared.lines.Command.{Command}
-use Rattle.commands.specs.declared.lines.Command.the-variants.{Open, Grant, Remove, Show, Holder, Unreadable}
-use Rattle.commands.specs.declared.lines.Single.{Single}
+use Rattle.commands.specs.declared.lines.Command.the-variants.{Grant, Unreadable}
 use Rattle.commands.specs.declared.lines.Single.the-variants as single
 use Rattle.commands.specs.declared.lines.Pair.{Pair}
 use Rattle.commands.specs.declared.lines.Pair.the-variants as pair

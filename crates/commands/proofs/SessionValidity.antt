@@ -1,6 +1,6 @@
--- The book of a session, if one is open, is valid.
+-- The book of a session, if one is open, is valid, and its stored form begins the next session.
 use Prim.Native.Nat.{ℕ}
-use mathlib.Core.Path.{_≡_, refl, sym, ap, _∙_}
+use mathlib.Core.Path.{_≡_, refl, sym}
 use mathlib.Core.Bool.{Bool, true, false, cond}
 use mathlib.Core.List.{List, [], _∷_}
 use native.Mathlib.Omega.{arith}
@@ -21,13 +21,14 @@ use Rattle.book.proofs.Validity.{keeps-valid}
 use Rattle.stored.specs.declared.loads.LoadAnswer.{LoadAnswer}
 use Rattle.stored.specs.declared.loads.LoadAnswer.the-variants as loadAnswer
 use Rattle.stored.specs.Loading.{loaded}
-use Rattle.stored.proofs.Promised.{loads-only-forms}
+use Rattle.stored.proofs.Promised.{reads-back, loads-only-forms}
 use Rattle.commands.specs.declared.lines.Command.{Command}
 use Rattle.commands.specs.declared.lines.Command.the-variants as command
 use Rattle.commands.specs.declared.sessions.Session.{Session}
 use Rattle.commands.specs.declared.sessions.Answered.{Answered}
 use Rattle.commands.specs.Lines.{commandOf}
-use Rattle.commands.specs.Sessions.{closed, begunWith, begun, ValidSession, opening, granting, removing, answered, after, afterLines, SessionKeepsValid}
+use Rattle.commands.specs.Sessions.{begunWith, begun, ValidSession, opening, granting, removing, answered, after, afterLines}
+use Rattle.commands.specs.Promises.{SessionKeepsValid, Resumes}
 
 -- a loaded book is valid
 loaded-session : (stored : List ℕ) (a : LoadAnswer) → loaded stored .answer ≡ a → ValidSession (begunWith a (loaded stored .book) .session)
@@ -83,3 +84,7 @@ after-lines s v (line ∷ lines) = after-lines (after s (commandOf line)) (after
 
 pub session-keeps-valid : SessionKeepsValid
 session-keeps-valid = record { none = λ e. impossible (sym e); loading = begun-session; obeying = after-valid; lines = after-lines }
+
+pub resumes : Resumes
+unfolding begun
+resumes s v p = rw (reads-back (s .book) (v p)) refl

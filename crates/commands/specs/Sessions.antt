@@ -1,7 +1,7 @@
 -- A session at the desk: which book is open, and what each command does and answers.
 use Prim.Native.Nat.{ℕ}
 use mathlib.Core.Path.{_≡_}
-use mathlib.Core.Bool.{Bool, true, false, cond}
+use mathlib.Core.Bool.{true, false, cond}
 use mathlib.Core.List.{List, [], _∷_}
 use Rattle.book.specs.declared.books.Book.{Book}
 use Rattle.book.specs.declared.books.OpenAnswer.{OpenAnswer}
@@ -64,24 +64,27 @@ only s reply = record { reply = reply; session = s }
 abbrev pub storing : Book → Reply → Answered
 storing b reply = record { reply = reply; session = altered b }
 
--- the answer and the session by the book's answer: a refusal changes nothing
+-- opening, by the book's answer: a refusal changes nothing
 abbrev pub opening : Session → ℕ → ℕ → OpenAnswer → Book → Answered
 opening s n w openAnswer.Opened b = storing b (Opened n w)
 opening s n w (openAnswer.Refused r) b = only s (Refused r)
 
+-- a grant, by the book's answer
 abbrev pub granting : Session → GrantAnswer → Book → Answered
 granting s (grantAnswer.Granted serial) b = storing b (Granted serial)
 granting s (grantAnswer.Refused r) b = only s (Refused r)
 
+-- a removal, by the book's answer
 abbrev pub removing : Session → ℕ → RemoveAnswer → Book → Answered
 removing s serial removeAnswer.Removed b = storing b (Removed serial)
 removing s serial (removeAnswer.Refused r) b = only s (Refused r)
 
--- the answer by the book's answer, of questions
+-- what show answers, by the book's answer
 abbrev pub showing : ShowAnswer → Reply
 showing (showAnswer.Shown c) = Circuit (c .a) (c .b) (c .way) (c .colour)
 showing (showAnswer.Refused r) = Refused r
 
+-- what holder answers, by the book's answer
 abbrev pub holding : HolderAnswer → Reply
 holding holderAnswer.Free = Free
 holding (holderAnswer.Held serial) = Held serial
@@ -109,10 +112,3 @@ after s c = answered s c .session
 abbrev pub afterLines : Session → List (List ℕ) → Session
 afterLines s [] = s
 afterLines s (line ∷ lines) = afterLines (after s (commandOf line)) lines
-
--- the promise that the book of a session, if one is open, is a valid one, from the start and after every line
-pub record SessionKeepsValid : Type 0 where
-  pub none : ValidSession closed
-  pub loading : (stored : List ℕ) → ValidSession (begun stored .session)
-  pub obeying : (s : Session) → ValidSession s → (c : Command) → ValidSession (after s c)
-  pub lines : (s : Session) → ValidSession s → (lines : List (List ℕ)) → ValidSession (afterLines s lines)
