@@ -1,5 +1,5 @@
 -- The lines of a text, and the whole text.
-use Prim.Native.Nat.{ℕ, zero, suc, _+_, _-_, _≤_, _<_}
+use Prim.Native.Nat.{ℕ, zero, suc, _+_, _*_, _-_, _≤_, _<_}
 use mathlib.Core.Path.{_≡_, refl, sym, _∙_, ap}
 use mathlib.Core.List.{List, [], _∷_, _++_, append-assoc}
 use native.Mathlib.Omega.{arith}
@@ -49,14 +49,18 @@ lines-turn buffer text count left at x y next h l e =
 pub lines-broken : (sofar text : List ℕ) (left at : ℕ) → 0 < left → line (drop at text) ≡ broken → unfit ≡ linesFrom sofar left (drop at text)
 lines-broken sofar text left at h e = sym (lines-suc sofar left (drop at text) h ∙ rw e refl)
 
--- no line is left: nothing may follow
-pub lines-ended : (sofar text : List ℕ) (left at : ℕ) → left ≤ 0 → length text ≤ at → all sofar ≡ linesFrom sofar left (drop at text)
-lines-ended sofar text zero at z h = rw (drop-of-length-le text h) refl
-lines-ended sofar text (suc left) at z h = absurd (omega arith)
+-- no line is left
+pub lines-ended : (sofar text : List ℕ) (left : ℕ) → left ≤ 0 → all sofar text ≡ linesFrom sofar left text
+lines-ended sofar text zero z = refl
+lines-ended sofar text (suc left) z = absurd (omega arith)
 
-pub lines-followed : (sofar text : List ℕ) (left at : ℕ) → left ≤ 0 → at < length text → unfit ≡ linesFrom sofar left (drop at text)
-lines-followed sofar text zero at z h = rw (drop-next text at h) refl
-lines-followed sofar text (suc left) at z h = absurd (omega arith)
+-- lines that were found, and such that were not, as the definition has them
+pub lines-are : {at m count next : ℕ} {text buffer : List ℕ} {r : LinesAt} → LinesRead text at m buffer r → r ≡ linesAt.All count next
+    → (linesFrom [] m (drop at text) ≡ all (take count buffer) (drop next text)) × ((2 * count ≤ next) × (next ≤ length text))
+lines-are {at} {m} {count} {next} {text} {buffer} {r} s e = (sym (s .same) ∙ ap (linesIn text buffer) e, rw e at (s .fits))
+
+pub lines-are-not : {at m : ℕ} {text buffer : List ℕ} {r : LinesAt} → LinesRead text at m buffer r → r ≡ linesAt.Unfit → linesFrom [] m (drop at text) ≡ unfit
+lines-are-not {at} {m} {text} {buffer} {r} s e = sym (s .same) ∙ ap (linesIn text buffer) e
 
 -- the first line ends within the text
 pub heading-inside : {text : List ℕ} {n w m next : ℕ} {r : HeadingAt} → HeadingRead text r → r ≡ headingAt.Numbers n w m next → next ≤ length text
@@ -67,21 +71,23 @@ pub read-long : (text buffer : List ℕ) → 8192 < length text → ReadingRead 
 unfolding readingOf
 read-long text buffer h = record { same = rw (lt-ltb 8192 (length text) h) refl; fits = tt }
 
-module _ {text : List ℕ} (short : length text ≤ 8192) where
-  pub read-no-heading : {buffer : List ℕ} {r : HeadingAt} → HeadingRead text r → r ≡ headingAt.Missing → ReadingRead text buffer readingAt.Unreadable
+module _ {text : List ℕ} (short : length text ≤ 8192) {r : HeadingAt} (first : HeadingRead text r) where
+  pub read-no-heading : {buffer : List ℕ} → r ≡ headingAt.Missing → ReadingRead text buffer readingAt.Unreadable
   unfolding readingOf formOf
-  read-no-heading {buffer} {r} s e = record { same = rw (le-ltb 8192 (length text) short, ← s .same, e) refl; fits = tt }
+  read-no-heading {buffer} e = record { same = rw (le-ltb 8192 (length text) short, ← first .same, e) refl; fits = tt }
 
-  pub read-no-lines : {buffer : List ℕ} {n w m next : ℕ} {r : HeadingAt} {t : LinesAt} → HeadingRead text r → r ≡ headingAt.Numbers n w m next
-      → LinesRead text next m buffer t → t ≡ linesAt.Unfit → ReadingRead text buffer readingAt.Unreadable
-  unfolding readingOf formOf
-  read-no-lines {buffer} {n} {w} {m} {next} {r} {t} s e l q =
-      let rest : linesFrom [] m (drop next text) ≡ unfit = sym (l .same) ∙ ap (linesIn buffer) q in
-      record { same = rw (le-ltb 8192 (length text) short, ← s .same, e, rest) refl; fits = tt }
+  module _ {n w m next : ℕ} (e : r ≡ headingAt.Numbers n w m next) {buffer : List ℕ} {t : LinesAt} (lines : LinesRead text next m buffer t) where
+    pub read-no-lines : t ≡ linesAt.Unfit → ReadingRead text buffer readingAt.Unreadable
+    unfolding readingOf formOf
+    read-no-lines q = record { same = rw (le-ltb 8192 (length text) short, ← first .same, e, lines-are-not lines q) refl; fits = tt }
 
-  pub read-whole : {buffer : List ℕ} {n w m next count : ℕ} {r : HeadingAt} {t : LinesAt} → HeadingRead text r → r ≡ headingAt.Numbers n w m next
-      → LinesRead text next m buffer t → t ≡ linesAt.All count → ReadingRead text buffer (readingAt.Readable n w count)
-  unfolding readingOf formOf
-  read-whole {buffer} {n} {w} {m} {next} {count} {r} {t} s e l q =
-      let rest : linesFrom [] m (drop next text) ≡ all (take count buffer) = sym (l .same) ∙ ap (linesIn buffer) q in
-      record { same = rw (le-ltb 8192 (length text) short, ← s .same, e, rest) refl; fits = rw q at (l .fits) }
+    pub read-followed : {count behind : ℕ} → t ≡ linesAt.All count behind → behind < length text → ReadingRead text buffer readingAt.Unreadable
+    unfolding readingOf formOf
+    read-followed {count} {behind} q h =
+        record { same = rw (le-ltb 8192 (length text) short, ← first .same, e, lines-are lines q .0, drop-next text behind h) refl; fits = tt }
+
+    pub read-whole : {count behind : ℕ} → t ≡ linesAt.All count behind → length text ≤ behind → ReadingRead text buffer (readingAt.Readable n w count)
+    unfolding readingOf formOf
+    read-whole {count} {behind} q h =
+        let fits = lines-are lines q .1 in
+        record { same = rw (le-ltb 8192 (length text) short, ← first .same, e, lines-are lines q .0, drop-of-length-le text h) refl; fits = omega arith }

@@ -64,14 +64,18 @@ pub data Ends : List ℕ → Type 0 where
   empty : Ends []
   more : {x y : ℕ} {ends : List ℕ} → x < 65536 → y < 65536 → Ends ends → Ends (x ∷ y ∷ ends)
 
--- the text that says n, w and the ends, with no leading zeros
-abbrev pub linesText : List ℕ → List ℕ
-linesText [] = []
-linesText (x ∷ []) = []
-linesText (x ∷ y ∷ ends) = decimal x ++ (space ∷ (decimal y ++ (lineFeed ∷ linesText ends)))
+-- a first line and lines of two ends, with no leading zeros, in front of a text
+abbrev pub headingText : ℕ → ℕ → ℕ → List ℕ → List ℕ
+headingText n w m text = decimal n ++ (space ∷ (decimal w ++ (space ∷ (decimal m ++ (lineFeed ∷ text)))))
 
+abbrev pub linesText : List ℕ → List ℕ → List ℕ
+linesText [] text = text
+linesText (x ∷ []) text = text
+linesText (x ∷ y ∷ ends) text = decimal x ++ (space ∷ (decimal y ++ (lineFeed ∷ linesText ends text)))
+
+-- the text that says n, w and the ends
 abbrev pub textOf : ℕ → ℕ → ℕ → List ℕ → List ℕ
-textOf n w m ends = decimal n ++ (space ∷ (decimal w ++ (space ∷ (decimal m ++ (lineFeed ∷ linesText ends)))))
+textOf n w m ends = headingText n w m (linesText ends [])
 
 -- a line reads back as its ends
 line-read : (x y : ℕ) (text : List ℕ) → x < 65536 → y < 65536 → line (decimal x ++ (space ∷ (decimal y ++ (lineFeed ∷ text)))) ≡ two x y text
@@ -80,22 +84,29 @@ line-read x y text hx hy =
     rw (decimal-read space x (decimal y ++ (lineFeed ∷ text)) (omega arith) hx, decimal-read lineFeed y text (omega arith) hy) refl
 
 -- the lines read back as the ends
-lines-read : (ends sofar : List ℕ) (m : ℕ) → Ends ends → length ends ≡ 2 * m → linesFrom sofar m (linesText ends) ≡ all (sofar ++ ends)
-lines-read [] sofar zero empty s = ap all (sym (append-nil sofar))
-lines-read [] sofar (suc m) empty s = absurd (omega arith)
-lines-read (x ∷ y ∷ ends) sofar zero (more hx hy e) s = absurd (omega arith)
-lines-read (x ∷ y ∷ ends) sofar (suc m) (more hx hy e) s =
-    rw (line-read x y (linesText ends) hx hy) (lines-read ends (sofar ++ (x ∷ y ∷ [])) m e (omega arith) ∙ ap all (append-assoc sofar (x ∷ y ∷ []) ends))
+pub lines-read : (ends sofar : List ℕ) (m : ℕ) (text : List ℕ) → Ends ends → length ends ≡ 2 * m
+    → linesFrom sofar m (linesText ends text) ≡ all (sofar ++ ends) text
+lines-read [] sofar zero text empty s = ap (λ (l : List ℕ). all l text) (sym (append-nil sofar))
+lines-read [] sofar (suc m) text empty s = absurd (omega arith)
+lines-read (x ∷ y ∷ ends) sofar zero text (more hx hy e) s = absurd (omega arith)
+lines-read (x ∷ y ∷ ends) sofar (suc m) text (more hx hy e) s =
+    rw (line-read x y (linesText ends text) hx hy)
+    (lines-read ends (sofar ++ (x ∷ y ∷ [])) m text e (omega arith) ∙ ap (λ (l : List ℕ). all l text) (append-assoc sofar (x ∷ y ∷ []) ends))
+
+-- the first line reads back as its numbers
+pub heading-read : (n w m : ℕ) (text : List ℕ) → n < 65536 → w < 65536 → m < 65536 → heading (headingText n w m text) ≡ numbers n w m text
+unfolding heading
+heading-read n w m text hn hw hm =
+    let first = decimal-read space n (decimal w ++ (space ∷ (decimal m ++ (lineFeed ∷ text)))) (omega arith) hn in
+    let second = decimal-read space w (decimal m ++ (lineFeed ∷ text)) (omega arith) hw in
+    let third = decimal-read lineFeed m text (omega arith) hm in
+    rw (first, second, third) refl
 
 -- and the whole text as n, w and the ends
 pub text-read : (n w m : ℕ) (ends : List ℕ) → n < 65536 → w < 65536 → m < 65536 → Ends ends → length ends ≡ 2 * m
     → formOf (textOf n w m ends) ≡ readable n w ends
-unfolding formOf heading
-text-read n w m ends hn hw hm e s =
-    let first = decimal-read space n (decimal w ++ (space ∷ (decimal m ++ (lineFeed ∷ linesText ends)))) (omega arith) hn in
-    let second = decimal-read space w (decimal m ++ (lineFeed ∷ linesText ends)) (omega arith) hw in
-    let third = decimal-read lineFeed m (linesText ends) (omega arith) hm in
-    rw (first, second, third, lines-read ends [] m e s) refl
+unfolding formOf
+text-read n w m ends hn hw hm e s = rw (heading-read n w m (linesText ends []) hn hw hm, lines-read ends [] m [] e s) refl
 
 -- a number that is read has 16 bits
 field-small : (close count value : ℕ) (text : List ℕ) {v : ℕ} {rest : List ℕ} → fieldFrom close count value text ≡ found v rest → v < 65536
@@ -168,9 +179,10 @@ ends-snoc (more a b e) h l = more a b (ends-snoc e h l)
 abbrev Fit : List ℕ → ℕ → ℕ → Type 0
 Fit ends before m = Ends ends × (length ends ≡ before + 2 * m)
 
-next-line : (m : ℕ) (sofar text : List ℕ) {ends : List ℕ} → Ends sofar
-    → ((x y : ℕ) (rest : List ℕ) → Ends (sofar ++ (x ∷ y ∷ [])) → linesFrom (sofar ++ (x ∷ y ∷ [])) m rest ≡ all ends → Fit ends (length (sofar ++ (x ∷ y ∷ []))) m)
-    → (l : Line) → line text ≡ l → onLine l unfit (λ x y rest. linesFrom (sofar ++ (x ∷ y ∷ [])) m rest) ≡ all ends → Fit ends (length sofar) (suc m)
+next-line : (m : ℕ) (sofar text : List ℕ) {ends behind : List ℕ} → Ends sofar
+    → ((x y : ℕ) (rest : List ℕ) → Ends (sofar ++ (x ∷ y ∷ [])) → linesFrom (sofar ++ (x ∷ y ∷ [])) m rest ≡ all ends behind
+    → Fit ends (length (sofar ++ (x ∷ y ∷ []))) m)
+    → (l : Line) → line text ≡ l → onLine l unfit (λ x y rest. linesFrom (sofar ++ (x ∷ y ∷ [])) m rest) ≡ all ends behind → Fit ends (length sofar) (suc m)
 next-line m sofar text s more-lines broken q e = let z : _≡_ {A = ℕ} 0 1 = cc in absurd (omega arith)
 next-line m sofar text s more-lines (two x y rest) q e =
     let small = line-small text q in
@@ -179,11 +191,10 @@ next-line m sofar text s more-lines (two x y rest) q e =
     let count = fit .1 in
     (fit .0, omega arith)
 
-lines-small : (sofar : List ℕ) (m : ℕ) (text : List ℕ) {ends : List ℕ} → Ends sofar → linesFrom sofar m text ≡ all ends → Fit ends (length sofar) m
-lines-small sofar zero [] {ends} s e =
+lines-small : (sofar : List ℕ) (m : ℕ) (text : List ℕ) {ends behind : List ℕ} → Ends sofar → linesFrom sofar m text ≡ all ends behind → Fit ends (length sofar) m
+lines-small sofar zero text {ends} s e =
     let same : sofar ≡ ends = cc in
     (rw (← same) s, rw (← same) (omega arith))
-lines-small sofar zero (b ∷ text) s e = let z : _≡_ {A = ℕ} 0 1 = cc in absurd (omega arith)
 lines-small sofar (suc m) text s e =
     next-line m sofar text s (λ x y rest fit q. lines-small (sofar ++ (x ∷ y ∷ [])) m rest fit q) (line text) refl e
 
@@ -195,7 +206,8 @@ reading-again text n w ends e = by (heading text) refl e
     behind : (a b m : ℕ) (rest : List ℕ) → (a < 65536) × (b < 65536) × (m < 65536) → (l : Lines) → linesFrom [] m rest ≡ l → withRing a b l ≡ readable n w ends
         → formOf (textOf n w (length ends / 2) ends) ≡ readable n w ends
     behind a b m rest small unfit q e = let z : _≡_ {A = ℕ} 0 1 = cc in absurd (omega arith)
-    behind a b m rest small (all read) q e =
+    behind a b m rest small (all read (x ∷ text)) q e = let z : _≡_ {A = ℕ} 0 1 = cc in absurd (omega arith)
+    behind a b m rest small (all read []) q e =
         let nodes : a ≡ n = cc in
         let colours : b ≡ w = cc in
         let same : read ≡ ends = cc in
@@ -214,7 +226,8 @@ ends-count text n w m rest ends h e = by (linesFrom [] m rest) refl (rw h at e)
   where
     by : (l : Lines) → linesFrom [] m rest ≡ l → withRing n w l ≡ readable n w ends → length ends / 2 ≡ m
     by unfit q e = let z : _≡_ {A = ℕ} 0 1 = cc in absurd (omega arith)
-    by (all read) q e =
+    by (all read (x ∷ text)) q e = let z : _≡_ {A = ℕ} 0 1 = cc in absurd (omega arith)
+    by (all read []) q e =
         let same : read ≡ ends = cc in
         let fit : Fit ends 0 m = rw same at (lines-small [] m rest empty q) in
         let count = fit .1 in

@@ -1,5 +1,5 @@
 -- What the functions inside find at positions of a text, read as the texts behind those positions.
-use Prim.Native.Nat.{ℕ, _+_, _≤_}
+use Prim.Native.Nat.{ℕ, _+_, _*_, _≤_}
 use mathlib.Core.Path.{_≡_}
 use mathlib.Core.List.{List, []}
 use lib.ListN.{length, take, drop}
@@ -30,10 +30,10 @@ abbrev pub headingIn : List ℕ → HeadingAt → Heading
 headingIn text headingAt.Missing = none
 headingIn text (headingAt.Numbers n w m next) = numbers n w m (drop next text)
 
--- the ends of the lines, which stand first in a buffer
-abbrev pub linesIn : List ℕ → LinesAt → Lines
-linesIn buffer linesAt.Unfit = unfit
-linesIn buffer (linesAt.All count) = all (take count buffer)
+-- the numbers of the lines, which stand first in a buffer, with the text behind them
+abbrev pub linesIn : List ℕ → List ℕ → LinesAt → Lines
+linesIn text buffer linesAt.Unfit = unfit
+linesIn text buffer (linesAt.All count next) = all (take count buffer) (drop next text)
 
 -- the reading, whose ends stand first in a buffer
 abbrev pub readingIn : List ℕ → ReadingAt → Reading
@@ -55,12 +55,12 @@ abbrev pub HeadingFits : ℕ → HeadingAt → Type 0
 HeadingFits most headingAt.Missing = Unit
 HeadingFits most (headingAt.Numbers n w m next) = next ≤ most
 
--- no more ends than a text of 8,192 bytes can hold
-abbrev pub LinesFit : LinesAt → Type 0
-LinesFit linesAt.Unfit = Unit
-LinesFit (linesAt.All count) = count ≤ 4096
+-- the lines end within the text, and each of their numbers takes two bytes at the least
+abbrev pub LinesFit : ℕ → LinesAt → Type 0
+LinesFit most linesAt.Unfit = Unit
+LinesFit most (linesAt.All count next) = (2 * count ≤ next) × (next ≤ most)
 
--- the same of a whole text
+-- no more ends than a text of 8,192 bytes can hold
 abbrev pub ReadingFits : ReadingAt → Type 0
 ReadingFits readingAt.Unreadable = Unit
 ReadingFits (readingAt.Readable n w count) = count ≤ 4096
@@ -80,16 +80,15 @@ pub record HeadingRead (text : List ℕ) (result : HeadingAt) : Type 0 where
   pub same : headingIn text result ≡ heading text
   pub fits : HeadingFits (length text) result
 
--- a position in a text of at most 8,192 bytes, and room for the ends of as many lines as it can hold
+-- a position in a text, and room for as many numbers as the text can hold
 pub record LinesFitIn (text : List ℕ) (at : ℕ) (buffer : List ℕ) : Type 0 where
   pub inside : at ≤ length text
-  pub short : length text ≤ 8192
-  pub room : 4096 ≤ length buffer
+  pub room : length text ≤ 2 * length buffer
 
 -- m lines from a position on, read into a buffer
 pub record LinesRead (text : List ℕ) (at m : ℕ) (buffer : List ℕ) (result : LinesAt) : Type 0 where
-  pub same : linesIn buffer result ≡ linesFrom [] m (drop at text)
-  pub fits : LinesFit result
+  pub same : linesIn text buffer result ≡ linesFrom [] m (drop at text)
+  pub fits : LinesFit (length text) result
 
 -- the whole text, its ends read into a buffer
 pub record ReadingRead (text buffer : List ℕ) (result : ReadingAt) : Type 0 where

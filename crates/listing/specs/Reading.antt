@@ -56,15 +56,14 @@ abbrev pub onLine : {A : Type 0} → Line → A → (ℕ → ℕ → List ℕ �
 onLine broken otherwise next = otherwise
 onLine (two x y text) otherwise next = next x y text
 
--- the ends of some lines
+-- the numbers of some lines, and the text behind them
 pub data Lines : Type 0 where
   unfit : Lines
-  all : List ℕ → Lines
+  all : List ℕ → List ℕ → Lines
 
--- "then m lines of two ends", and nothing behind them: the ends read so far, and those of m lines more
+-- "then m lines of two ends": the ends read so far, and those of m lines more
 abbrev pub linesFrom : List ℕ → ℕ → List ℕ → Lines
-linesFrom sofar zero [] = all sofar
-linesFrom sofar zero (b ∷ text) = unfit
+linesFrom sofar zero text = all sofar text
 linesFrom sofar (suc m) text = onLine (line text) unfit (λ x y rest. linesFrom (sofar ++ (x ∷ y ∷ [])) m rest)
 
 -- the first line: "a line n w m", and the text behind it
@@ -82,10 +81,11 @@ pub data Reading : Type 0 where
   unreadable : Reading
   readable : ℕ → ℕ → List ℕ → Reading
 
--- n and w with the ends of the lines
+-- n and w with the ends of the lines, behind which nothing stands
 abbrev pub withRing : ℕ → ℕ → Lines → Reading
 withRing n w unfit = unreadable
-withRing n w (all ends) = readable n w ends
+withRing n w (all ends []) = readable n w ends
+withRing n w (all ends (b ∷ text)) = unreadable
 
 -- the first line with the m lines behind it
 abbrev pub behindHeading : Heading → Reading

@@ -24,10 +24,10 @@ pub enum HeadingAt {
     Numbers(u16, u16, u16, usize),
 }
 
-// How many ends the lines have.
+// How many numbers the lines have, and the position behind them.
 pub enum LinesAt {
     Unfit,
-    All(usize),
+    All(usize, usize),
 }
 
 // n, w and how many ends were read.
@@ -109,7 +109,7 @@ pub fn line(text: &[u8], at: usize) -> LineAt
 }
 
 // The first line.
-fn heading(text: &[u8]) -> HeadingAt
+pub fn heading(text: &[u8]) -> HeadingAt
     ensures { λ r. ⌜ HeadingRead (now (text .entry)) r ⌝ }
 {
     let first = field(text, 0, b' ');
@@ -127,8 +127,8 @@ fn heading(text: &[u8]) -> HeadingAt
     HeadingAt::Numbers(n, w, m, next)
 }
 
-// m lines of two ends from a position on, and nothing behind them: the ends go into the buffer.
-fn request_lines(text: &[u8], at: usize, m: u16, buffer: &mut [u16]) -> LinesAt
+// m lines of two ends from a position on: the ends go into the buffer.
+pub fn request_lines(text: &[u8], at: usize, m: u16, buffer: &mut [u16]) -> LinesAt
     requires { ⌜ LinesFitIn (now text) at (now buffer) ⌝ }
     ensures { λ r. ⌜ LinesRead (now (text .entry)) at m (now (buffer .exit)) r ⌝ }
 {
@@ -146,10 +146,7 @@ fn request_lines(text: &[u8], at: usize, m: u16, buffer: &mut [u16]) -> LinesAt
         next = behind;
         left -= 1;
     }
-    if next < text.len() {
-        return LinesAt::Unfit;
-    }
-    LinesAt::All(count)
+    LinesAt::All(count, next)
 }
 
 // The whole text: n and w, with the ends in the buffer.
@@ -165,8 +162,11 @@ pub fn read(text: &[u8], buffer: &mut [u16]) -> ReadingAt
         return ReadingAt::Unreadable;
     };
     let lines = request_lines(text, next, m, buffer);
-    let LinesAt::All(count) = lines else {
+    let LinesAt::All(count, behind) = lines else {
         return ReadingAt::Unreadable;
     };
+    if behind < text.len() {
+        return ReadingAt::Unreadable;
+    }
     ReadingAt::Readable(n, w, count)
 }

@@ -1,5 +1,5 @@
 use native.Mathlib.Omega.{arith}
-use Rattle.listing.proofs.LineLaws.{heading-inside, read-long, read-no-heading, read-no-lines, read-whole}
+use Rattle.listing.proofs.LineLaws.{heading-inside, read-long, read-no-heading, read-no-lines, read-followed, read-whole}
 use borrow.Author.Needs.{needs}
 use Rattle.listing.proofs.reading.read.Statement.{statement}
 use Rattle.listing.proofs.reading.read.Tie as tie
@@ -21,7 +21,7 @@ returns-2 c = read-no-heading (c .before .before .before .if1 .left) (c .before 
 
 request-lines-requires : tie.Need-request-lines-requires
 request-lines-requires c κs =
-    record { inside = heading-inside (c .before .before .before .before .heading .ensures) (c .before .before .first .given .1); short = omega arith; room = omega arith }
+    record { inside = heading-inside (c .before .before .before .before .heading .ensures) (c .before .before .first .given .1); room = omega arith }
 
 enum-known-lines : tie.Need-enum-known-lines
 enum-known-lines c = search needs
@@ -34,16 +34,32 @@ same-length c = search needs
 
 returns-3 : tie.Need-returns-3
 returns-3 c =
-    read-no-lines (c .before .before .before .before .before .before .before .before .before .before .if1 .left) (c .before .before .before .before .before .before .before .before .before .heading .ensures) (c .before .before .before .before .before .before .before .first .given .1)
-    (c .before .before .before .before .request-lines .ensures) (c .enum-told2 .given .1)
+    let lines = c .before .before .before .before in
+    let first = lines .before .before .before in
+    let heading = first .before .before in
+    read-no-lines (heading .before .if1 .left) (heading .heading .ensures) (first .first .given .1) (lines .request-lines .ensures) (c .enum-told2 .given .1)
 
 same-length-2 : tie.Need-same-length-2
 same-length-2 c = search needs
 
 returns-4 : tie.Need-returns-4
 returns-4 c =
-    read-whole (c .before .before .before .before .before .before .before .before .before .before .before .if1 .left) (c .before .before .before .before .before .before .before .before .before .before .heading .ensures) (c .before .before .before .before .before .before .before .before .first .given .1)
-    (c .before .before .before .before .before .request-lines .ensures) (c .before .lines .given .1)
+    let told = c .before .before in
+    let lines = told .before .before .before .before in
+    let first = lines .before .before .before in
+    let heading = first .before .before in
+    read-followed (heading .before .if1 .left) (heading .heading .ensures) (first .first .given .1) (lines .request-lines .ensures) (told .lines .given .1) (c .if2 .taken)
+
+same-length-3 : tie.Need-same-length-3
+same-length-3 c = search needs
+
+returns-5 : tie.Need-returns-5
+returns-5 c =
+    let told = c .before .before in
+    let lines = told .before .before .before .before in
+    let first = lines .before .before .before in
+    let heading = first .before .before in
+    read-whole (heading .before .if1 .left) (heading .heading .ensures) (first .first .given .1) (lines .request-lines .ensures) (told .lines .given .1) (c .if2 .left)
 
 pub read-spec : {M : Type 1} → statement M
 read-spec =
@@ -60,4 +76,6 @@ read-spec =
     same-length
     returns-3
     same-length-2
-    returns-4)
+    returns-4
+    same-length-3
+    returns-5)

@@ -5,7 +5,7 @@ use native.Mathlib.Omega.{arith}
 use lib.ListN.{length, take, drop, length-set}
 use borrow.Author.Needs.{needs}
 use Rattle.listing.specs.Reading.{linesFrom}
-use Rattle.listing.proofs.LineLaws.{line-is, line-is-not, lines-turn, lines-broken, lines-ended, lines-followed}
+use Rattle.listing.proofs.LineLaws.{line-is, line-is-not, lines-turn, lines-broken, lines-ended}
 use Rattle.listing.proofs.reading.request_lines.Statement.{statement}
 use Rattle.listing.proofs.reading.request_lines.Tie as tie
 
@@ -84,18 +84,8 @@ same-length-2 c = search needs
 
 returns-2 : tie.Need-returns-2 Inv-loop μ-loop
 returns-2 c =
-    let here = c .before .before .loop in
-    let start = c .before .before .before .before .before in
-    record { same = lines-followed _ (start .args .text .now) (here .left) (here .next) (c .before .loop-test .left) (c .if1 .taken) ∙ here .inv .3; fits = tt }
-
-same-length-3 : tie.Need-same-length-3 Inv-loop μ-loop
-same-length-3 c = search needs
-
-returns-3 : tie.Need-returns-3 Inv-loop μ-loop
-returns-3 c =
-    let here = c .before .before .loop in
-    let start = c .before .before .before .before .before in
-    record { same = lines-ended _ (start .args .text .now) (here .left) (here .next) (c .before .loop-test .left) (c .if1 .left) ∙ here .inv .3; fits = omega arith }
+    let here = c .before .loop in
+    record { same = lines-ended _ _ (here .left) (c .loop-test .left) ∙ here .inv .3; fits = (here .inv .0, here .inv .1) }
 
 pub request-lines-spec : {M : Type 1} → statement M
 request-lines-spec =
@@ -119,6 +109,4 @@ request-lines-spec =
     loop-less
     loop-again
     same-length-2
-    returns-2
-    same-length-3
-    returns-3)
+    returns-2)
