@@ -1,33 +1,11 @@
 //! The planning program, on its samples and on every way of breaking the form of its input; the library answers alike.
-use std::io::{Read, Write};
-use std::process::{Command, Stdio};
+mod programs;
 
 use ring_planner::answer;
 
-/// What the program prints for an input that comes in pieces of the given size.
+/// What the planning program prints for an input that comes in pieces of the given size.
 fn output(input: &[u8], piece: usize) -> String {
-    let program = concat!(env!("CARGO_MANIFEST_DIR"), "/../target/bin/plan");
-    let mut child = Command::new(program)
-        .stdin(Stdio::piped())
-        .stdout(Stdio::piped())
-        .spawn()
-        .expect("the program is built");
-    let mut stdin = child.stdin.take().unwrap();
-    for part in input.chunks(piece.max(1)) {
-        // The program reads no further than one byte past the limit, so a write may find it gone.
-        if stdin.write_all(part).and_then(|()| stdin.flush()).is_err() {
-            break;
-        }
-    }
-    drop(stdin);
-    let mut text = String::new();
-    child
-        .stdout
-        .take()
-        .unwrap()
-        .read_to_string(&mut text)
-        .unwrap();
-    assert!(child.wait().unwrap().success());
+    let text = programs::output("plan", input, piece);
     assert_eq!(text.as_bytes(), answer(input));
     text
 }

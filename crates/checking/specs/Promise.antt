@@ -10,7 +10,7 @@ use Rattle.checker.specs.Check.{checkAnswer}
 use Rattle.checking.specs.Reading.{Reading, unreadable, readable, readingOf}
 use Rattle.checking.specs.Verdict.{verdictText}
 
--- "21 first .. Then as Check": the answer to what a text says
+-- "21 first .. Then as Check.": the answer to what a text says
 abbrev pub answerTo : Reading → CheckAnswer
 answerTo unreadable = check.Refused TextForm
 answerTo (readable n w ends table) = checkAnswer n w ends table

@@ -6,7 +6,7 @@ use lib.Dec.{ltb}
 use lib.ListN.{length}
 use Rattle.listing.specs.Reading.{field, onField, lineFeed, Lines, unfit, all, linesFrom, Heading, none, numbers, heading}
 
--- "followed by m lines of one fate number each": the numbers read so far, and those of m lines more
+-- "m lines of one fate number each, every line closed by a line feed": the numbers read so far, and those of m lines more
 abbrev pub tableFrom : List ℕ → ℕ → List ℕ → Lines
 tableFrom sofar zero text = all sofar text
 tableFrom sofar (suc m) text = onField (field lineFeed text) unfit (λ number rest. tableFrom (sofar ++ (number ∷ [])) m rest)
@@ -32,10 +32,10 @@ abbrev pub behindHeading : Heading → Reading
 behindHeading none = unreadable
 behindHeading (numbers n w m text) = behindEnds n w m (linesFrom [] m text)
 
--- the reading of a text of the stated form
+-- "the planning program's text, followed by m lines of one fate number each"
 unfoldable pub formOf : List ℕ → Reading
 formOf text = behindHeading (heading text)
 
--- "21 first: more than 16,384 bytes, or a text not of the stated form"
+-- "21 first: more than 16,384 bytes, or a text not of this form"
 unfoldable pub readingOf : List ℕ → Reading
 readingOf text = cond (ltb 16384 (length text)) unreadable (formOf text)
