@@ -2,5 +2,6 @@
 pub mod TableLaws
 pub mod VerdictLaws
 pub mod AnswerLaws
+pub mod PassingLaws
 pub mod ReadBack
 pub mod Example

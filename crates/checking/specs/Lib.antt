@@ -2,4 +2,5 @@
 pub mod Reading
 pub mod Verdict
 pub mod Promise
+pub mod Passing
 pub mod Positions
