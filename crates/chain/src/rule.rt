@@ -1,8 +1,9 @@
 // The colour that a request gets: best fit over the colours' latest ends.
 ghost use mathlib.Core.Path.{_≡_};
-ghost use Prim.Native.Nat.{_≤_};
+ghost use Prim.Native.Nat.{_≤_, _<_};
 ghost use lib.ListN.{length, take};
-ghost use Rattle.chain.specs.Rule.{rank, pick, after, Below};
+ghost use Rattle.chain.specs.Rule.{pick, after, Below};
+ghost use Rattle.chain.specs.Walk.{Greatest, FirstWith};
 
 // A colour, or none.
 pub enum Pick {
@@ -10,34 +11,51 @@ pub enum Pick {
     Nothing,
 }
 
-// 0 for a latest end above a, else one more than the end.
-fn rank(end: u16, a: u16) -> u32
-    ensures { λ r. ⌜ r ≡ rank «end» a ⌝ }
+// A latest end that is not above a, and 0 in place of one that is.
+fn fitting(end: u16, a: u16) -> u16
+    ensures { λ r. ⌜ («end» ≤ a → r ≡ «end») × (a < «end» → r ≡ 0) ⌝ }
 {
-    if end <= a { end as u32 + 1 } else { 0 }
+    if end <= a { end } else { 0 }
 }
 
-// The colour below w whose latest end is greatest among those not above a, the lowest colour on a tie.
+// The greatest of the first w latest ends that is not above a, 0 if there is none. No early exit: the loop compares many colours at once.
+fn greatest(latest: &[u16; 128], w: usize, a: u16) -> u16
+    requires { ⌜ (w ≤ 128) × (length (now latest) ≡ 128) ⌝ }
+    ensures { λ r. ⌜ Greatest (now (latest .entry)) w a r ⌝ }
+{
+    let mut top: u16 = 0;
+    let mut c: usize = 0;
+    while c < w {
+        let fit = fitting(latest[c], a);
+        if top < fit {
+            top = fit;
+        }
+        c += 1;
+    }
+    top
+}
+
+// The first of w colours with this latest end, if there is one.
+fn first_with(latest: &[u16; 128], w: usize, end: u16) -> Pick
+    requires { ⌜ (w ≤ 128) × (length (now latest) ≡ 128) ⌝ }
+    ensures { λ r. ⌜ FirstWith (now (latest .entry)) w «end» r ⌝ }
+{
+    let mut c: usize = 0;
+    while c < w {
+        if latest[c] == end {
+            return Pick::Colour(c);
+        }
+        c += 1;
+    }
+    Pick::Nothing
+}
+
+// The colour below w whose latest end is greatest among those not above a, the lowest colour on a tie. Where none fits, every latest end is above a, and so none is 0.
 pub fn best(latest: &[u16; 128], w: usize, a: u16) -> Pick
     requires { ⌜ (w ≤ 128) × (length (now latest) ≡ 128) ⌝ }
     ensures { λ r. ⌜ r ≡ pick (take w (now (latest .entry))) a ⌝ }
 {
-    let mut top: u32 = 0;
-    let mut at: usize = 0;
-    let mut c: usize = 0;
-    while c < w {
-        let r = rank(latest[c], a);
-        if top < r {
-            top = r;
-            at = c;
-        }
-        c += 1;
-    }
-    if top == 0 {
-        Pick::Nothing
-    } else {
-        Pick::Colour(at)
-    }
+    first_with(latest, w, greatest(latest, w, a))
 }
 
 // The latest ends after a pick for a request with the larger end b.
