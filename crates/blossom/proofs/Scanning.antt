@@ -44,6 +44,26 @@ scan-begin adj M label base r s done S x e = record {
   partly = record { x-even = e; x-free = λ y l. absurd (omega arith); x-base = λ y l. absurd (omega arith) };
 }
 
+-- the tree grows from the even x by n, which is free, and its mate
+pub search-grow : (adj : ℕ → ℕ → Bool) → Symmetric adj → (M : ℕ → ℕ) (label : ℕ → Label) (base : ℕ → ℕ) (r : ℕ) (s : State) (done : ℕ → Bool)
+    → Searching adj M label base r s done → (x n : ℕ) → s .label x ≡ Even → s .label n ≡ Free → eqb (M n) n ≡ false → adj x n ≡ true
+    → Searching adj M label base r (grown M s x n (M n)) done
+search-grow adj symmetric M label base r s done S x n ex e d a =
+    let I = S .invariant in let after : State = grown M s x n (M n) in
+    let L = grown-extends adj symmetric s M x n (M n) e (I .mate-free n e) in
+    record {
+      invariant = grows adj symmetric M r s I x n ex e d a;
+      frozen-label = λ z. let l = S .frozen-label z in let fc = I .mate-free n e in elim (test z (M n)) [
+        | same i j ↦ cc
+        | different i ↦ elim (test z n) [ same j k ↦ cc | different j ↦ cc ]
+      ];
+      frozen-base = λ z f. let l = S .frozen-label z in let b = S .frozen-base z f in elim (test z (M n)) [
+        | same i j ↦ cc (I .mate-free n e)
+        | different i ↦ cc
+      ];
+      scanned = scanned-extends adj symmetric s after L done (S .scanned);
+    }
+
 module _ (adj : ℕ → ℕ → Bool) (symmetric : Symmetric adj) (M : ℕ → ℕ) (label : ℕ → Label) (base : ℕ → ℕ) (r : ℕ) (s : State) (done : ℕ → Bool)
     (x n : ℕ) (N : Scanning adj M label base r s done x n) where
   -- a scan ends
@@ -69,18 +89,7 @@ module _ (adj : ℕ → ℕ → Bool) (symmetric : Symmetric adj) (M : ℕ → �
       let S = N .search in let I = S .invariant in let after : State = grown M s x n (M n) in
       let L = grown-extends adj symmetric s M x n (M n) e (I .mate-free n e) in
       record {
-        search = record {
-          invariant = grows adj symmetric M r s I x n (N .partly .x-even) e d a;
-          frozen-label = λ z. let l = S .frozen-label z in let fc = I .mate-free n e in elim (test z (M n)) [
-            | same i j ↦ cc
-            | different i ↦ elim (test z n) [ same j k ↦ cc | different j ↦ cc ]
-          ];
-          frozen-base = λ z f. let l = S .frozen-label z in let b = S .frozen-base z f in elim (test z (M n)) [
-            | same i j ↦ cc (I .mate-free n e)
-            | different i ↦ cc
-          ];
-          scanned = scanned-extends adj symmetric s after L done (S .scanned);
-        };
+        search = search-grow adj symmetric M label base r s done S x n (N .partly .x-even) e d a;
         partly = scan-next adj after done x n (partly-scanned-extends adj symmetric s after L done (S .scanned) x n (N .partly))
             (λ h. elim (test n (M n)) [ same i j ↦ cc | different i ↦ cc (eqb-refl n) ])
             (λ d b. cc (S .scanned .done-even n d));

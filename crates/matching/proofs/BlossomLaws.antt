@@ -16,12 +16,12 @@ use Rattle.blossom.proofs.State.{State, below, Invariant}
 use Rattle.blossom.proofs.Blossom.{merged, shrunk, NewOrders}
 use Rattle.blossom.proofs.Cycle.{cycle, cycle-odd, Walk}
 use Rattle.blossom.proofs.Scanning.{scan-blossom}
-use Rattle.matching.specs.declared.matchings.Matching.{Matching}
+use Rattle.matching.specs.Arrays.{Arrays, arrays}
 use Rattle.matching.specs.Adjacency.{adjacent}
 use Rattle.matching.specs.Model.{entry, rowAt, labelOf, labelAt, settledOf, settledAt, among}
 use Rattle.matching.specs.Rows.{cell, sideOf, Absorbed}
 use Rattle.matching.specs.Search.{Square, Stands, Standing, ScanAt}
-use Rattle.matching.specs.Steps.{onCycle, joinsBlossom, newBase, withBases, Promoted}
+use Rattle.matching.specs.Steps.{onCycle, joinsBlossom, newBase, Promoted}
 use Rattle.matching.proofs.AdjacencyLaws.{mates-inside}
 use Rattle.matching.proofs.ModelLaws.{entry-inside}
 use Rattle.matching.proofs.StandingLaws.{count-room, even-inside, odd-inside, entry-outside, unfrozen}
@@ -36,7 +36,7 @@ pub among-same : (q q' : List ℕ) (k : ℕ) → ((i : ℕ) → i < k → getD q
 among-same q q' Prim.Native.Nat.zero e z = refl
 among-same q q' (suc k) e z = cc (e k (omega arith), among-same q q' k (λ i h. e i (omega arith)) z)
 
-module _ (R : List Request) (symmetric : Symmetric (adjacent R)) (r : ℕ) (s : Matching) (rows : List (List ℕ)) (h x y : ℕ)
+module _ (R : List Request) (symmetric : Symmetric (adjacent R)) (r : ℕ) (s : Arrays) (rows : List (List ℕ)) (h x y : ℕ)
     (at : ScanAt R r s rows h x y) (ey : at .standing .state .label y ≡ Even) (axy : adjacent R x y ≡ true)
     (sides : List ℕ) (sided : (v : ℕ) → v < length R → getD sides v 0 ≡ sideOf rows (s .labels) (s .mates) x y v) where
   abbrev m : ℕ
@@ -85,11 +85,34 @@ module _ (R : List Request) (symmetric : Symmetric (adjacent R)) (r : ℕ) (s : 
   pub cycle-room : s .clock + count (onCycle m sides) m ≤ 512
   cycle-room = omega (arith, T .sized .few, count-both, count-le (λ z. A z || even? (state .label z)) (λ z. true) m (λ z l e. refl), count-true m)
 
+  base-inside : (z : ℕ) → z < m → state .base z < m
+  base-inside z l = rw (T .stands .base-is z ∙ entry-inside m (s .bases) z l) (T .sized .bases-inside z l)
+
+  -- the class of the blossom
+  pub joins-is : (z : ℕ) → z < m → joinsBlossom (s .labels) (s .mates) (s .bases) sides z ≡ (A z || even? (state .label z) && A (M (state .base z)))
+  unfolding joinsBlossom onCycle
+  joins-is z l =
+      let b = T .stands .base-is z ∙ entry-inside m (s .bases) z l in
+      let hb = base-inside z l in
+      let mb = entry-inside m (s .mates) (state .base z) hb in
+      let hm = mates-inside R M (T .between .mates) (state .base z) hb in
+      cc (
+        on z,
+        lt-ltb z m l,
+        on (M (state .base z)),
+        lt-ltb (M (state .base z)) m hm,
+        label-inside R r s rows state (T .stands) I z l,
+        is-even-number (getD (s .labels) z 0),
+      )
+
   module _ (k : ℕ) (W : Walk M state A x k) (nk : A (M k) ≡ false)
-      (rows' : List (List ℕ)) (square : Square rows') (absorbed : Absorbed m rows rows' (s .labels) (s .mates) sides x y)
+      (rows' : List (List ℕ)) (square : Square (length R) rows') (absorbed : Absorbed m rows rows' (s .labels) (s .mates) sides x y)
       (bases : List ℕ) (bases-length : length bases ≡ 512)
       (based : (z : ℕ) → z < m → getD bases z 0 ≡ newBase (s .labels) (s .mates) (s .bases) sides k z)
-      (t : Matching) (P : Promoted m m sides (withBases s bases) t) where
+      (labels' queue' : List ℕ) (clock' : ℕ) (P : Promoted m m sides (s .labels) (s .queue) (s .clock) labels' queue' clock') where
+    abbrev t : Arrays
+    t = arrays (s .mates) labels' bases (s .parents) queue' clock'
+
     abbrev p : ℕ → ℕ
     p v = cond (below M state v x) x y
 
@@ -104,9 +127,6 @@ module _ (R : List Request) (symmetric : Symmetric (adjacent R)) (r : ℕ) (s : 
 
     k-inside : k < m
     k-inside = even-inside R s rows state (T .stands) k k-even
-
-    base-inside : (z : ℕ) → z < m → state .base z < m
-    base-inside z l = rw (T .stands .base-is z ∙ entry-inside m (s .bases) z l) (T .sized .bases-inside z l)
 
     label-after : (z : ℕ) → after .label z ≡ labelAt m (t .labels) z
     unfolding labelAt labelOf
@@ -125,29 +145,12 @@ module _ (R : List Request) (symmetric : Symmetric (adjacent R)) (r : ℕ) (s : 
       | no f ↦ cc
     ]
 
-    -- the class of the blossom
-    joins-is : (z : ℕ) → z < m → joinsBlossom (s .labels) (s .mates) (s .bases) sides z ≡ (A z || even? (state .label z) && A (M (state .base z)))
-    unfolding joinsBlossom onCycle
-    joins-is z l =
-        let b = T .stands .base-is z ∙ entry-inside m (s .bases) z l in
-        let hb = base-inside z l in
-        let mb = entry-inside m (s .mates) (state .base z) hb in
-        let hm = mates-inside R M (T .between .mates) (state .base z) hb in
-        cc (
-          on z,
-          lt-ltb z m l,
-          on (M (state .base z)),
-          lt-ltb (M (state .base z)) m hm,
-          label-inside R r s rows state (T .stands) I z l,
-          is-even-number (getD (s .labels) z 0),
-        )
-
     base-after : (z : ℕ) → after .base z ≡ entry m (t .bases) z
     unfolding newBase
     base-after z = elim (compare z m) [
       | less l i ↦
           let g = based z l in let j = joins-is z l in let b = T .stands .base-is z ∙ entry-inside m (s .bases) z l in
-          let n : entry m (t .bases) z ≡ getD bases z 0 = ap (λ (w : List ℕ). entry m w z) (P .bases) ∙ entry-inside m bases z l in
+          let n : entry m (t .bases) z ≡ getD bases z 0 = entry-inside m bases z l in
           elim (test (state .base z) k) [
             | same e f ↦ elim (is (A z || even? (state .label z) && A (M (state .base z)))) [
               | yes u ↦ elim (is (merged M state A k z)) [ yes v ↦ cc | no v ↦ cc ]
@@ -215,12 +218,12 @@ module _ (R : List Request) (symmetric : Symmetric (adjacent R)) (r : ℕ) (s : 
     stands-after = record {
       label-is = label-after;
       base-is = base-after;
-      parent-is = λ z o. elim (is (A z)) [ yes e ↦ impossible (cc) | no e ↦ cc (T .stands .parent-is z (cc), P .parents) ];
+      parent-is = λ z o. elim (is (A z)) [ yes e ↦ impossible (cc) | no e ↦ cc (T .stands .parent-is z (cc)) ];
       row-is = row-after;
-      clock-is = sym (P .clock);
+      clock-is = sym (P .counted);
       clock-counts = omega (
         arith,
-        P .clock,
+        P .counted,
         count-both,
         sum-ext (λ z. bit (even? (after .label z))) (λ z. bit (A z || even? (state .label z))) m (λ z l. ap bit (even-after z)),
       );
@@ -239,10 +242,10 @@ module _ (R : List Request) (symmetric : Symmetric (adjacent R)) (r : ℕ) (s : 
       standing = record {
         sized = record {
           few = T .sized .few;
-          mates = ap length (P .mates) ∙ T .sized .mates;
+          mates = T .sized .mates;
           labels = P .labels-length ∙ T .sized .labels;
-          bases = ap length (P .bases) ∙ bases-length;
-          parents = ap length (P .parents) ∙ T .sized .parents;
+          bases = bases-length;
+          parents = T .sized .parents;
           queue = P .queue-length ∙ T .sized .queue;
           bases-inside = base-bound;
         };
@@ -250,14 +253,14 @@ module _ (R : List Request) (symmetric : Symmetric (adjacent R)) (r : ℕ) (s : 
         frozen-label = T .frozen-label;
         frozen-base = T .frozen-base;
         frozen-label-is = settled-after;
-        between = rw (P .mates) (T .between);
+        between = T .between;
         state = after;
         stands = stands-after;
       };
       scanned = at .scanned;
       scanned-is = λ z. at .scanned-is z ∙ sym (among-same (s .queue) (t .queue) h (λ i l. P .before i (omega (arith, at .next))) z);
-      next = omega (arith, at .next, P .clock);
+      next = omega (arith, at .next, P .counted);
       current = at .current ∙ sym (P .before h (at .next));
-      scanning = rw (P .mates, add-one) (scan-blossom (adjacent R) symmetric M (T .frozen-label) (T .frozen-base) r state (at .scanned) x y (at .scanning)
+      scanning = rw add-one (scan-blossom (adjacent R) symmetric M (T .frozen-label) (T .frozen-base) r state (at .scanned) x y (at .scanning)
           ey axy k W nk (λ v. s .clock) (s .clock + count (onCycle m sides) m) orders);
     }

@@ -1,19 +1,19 @@
 -- The arrays of a blossom, in the words of the theory: the sides are the cycle, and the absorbed rows its rows.
 use Prim.Native.Nat.{ℕ, _<_, _≤_}
-use mathlib.Core.Path.{_≡_, refl, _∙_}
+use mathlib.Core.Path.{_≡_, refl, sym, _∙_}
 use mathlib.Core.Bool.{Bool, true, false, not, cond, _&&_}
 use mathlib.Core.List.{List, []}
 use native.Mathlib.Omega.{arith}
 use lib.Dec.{eqb, ltb}
 use lib.ListN.{length, getD}
 use borrow.Author.Tests.{eqb-true, ne-eqb, lt-ltb}
-use Rattle.ring.proofs.Cases.{yes, no, is, less, not-less, compare, impossible}
+use Rattle.ring.proofs.Cases.{yes, no, is, three, less, not-less, compare, impossible}
 use Rattle.ring.specs.declared.requests.Request.{Request}
 use Rattle.blossom.proofs.Labels.{Free, Even, even?, odd?, is-free, is-even, is-odd, is-frozen, label-case}
 use Rattle.blossom.proofs.State.{State, below, Invariant}
 use Rattle.blossom.proofs.Absorb.{absorbed-row}
 use Rattle.blossom.proofs.Cycle.{differ, cycle}
-use Rattle.matching.specs.declared.matchings.Matching.{Matching}
+use Rattle.matching.specs.Arrays.{Arrays}
 use Rattle.matching.specs.Adjacency.{adjacent}
 use Rattle.matching.specs.Model.{entry, labelOf}
 use Rattle.matching.specs.Rows.{cell, belowIn, absorbedEntry, sideBy, sideOf}
@@ -53,7 +53,7 @@ is-free-number n h = elim (is (eqb n 0)) [
   ]
 ]
 
-module _ (R : List Request) (r : ℕ) (s : Matching) (rows : List (List ℕ)) (state : State) (S : Stands R s rows state)
+module _ (R : List Request) (r : ℕ) (s : Arrays) (rows : List (List ℕ)) (state : State) (S : Stands R s rows state)
     (I : Invariant (adjacent R) (entry (length R) (s .mates)) r state) where
   abbrev m : ℕ
   m = length R
@@ -135,6 +135,27 @@ module _ (R : List Request) (r : ℕ) (s : Matching) (rows : List (List ℕ)) (s
 
     pub side-second : (v : ℕ) → v < m → cycle M state x y v ≡ true → below M state v x ≡ false → getD sides v 0 ≡ 2
     side-second v h a b = side-is v h ∙ second-side (odd? (state .label v)) (below M state v x) (below M state v y) a b
+
+    -- and what a side says
+    one-side : (o a b : Bool) → side o a b ≡ 1 → three o a b ≡ three true true false
+    one-side true true true e = cc
+    one-side true true false e = refl
+    one-side true false true e = cc
+    one-side true false false e = cc
+    one-side false a b e = cc
+
+    two-side : (o a b : Bool) → side o a b ≡ 2 → three o a b ≡ three true false true
+    two-side true true true e = cc
+    two-side true true false e = cc
+    two-side true false true e = refl
+    two-side true false false e = cc
+    two-side false a b e = cc
+
+    pub side-one : (v : ℕ) → v < m → getD sides v 0 ≡ 1 → three (odd? (state .label v)) (below M state v x) (below M state v y) ≡ three true true false
+    side-one v h e = one-side (odd? (state .label v)) (below M state v x) (below M state v y) (sym (side-is v h) ∙ e)
+
+    pub side-two : (v : ℕ) → v < m → getD sides v 0 ≡ 2 → three (odd? (state .label v)) (below M state v x) (below M state v y) ≡ three true false true
+    side-two v h e = two-side (odd? (state .label v)) (below M state v x) (below M state v y) (sym (side-is v h) ∙ e)
 
     -- only an odd vertex has a side
     side-none : (o a b : Bool) → o ≡ false → side o a b ≡ 0

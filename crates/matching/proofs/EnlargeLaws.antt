@@ -12,7 +12,7 @@ use Rattle.blossom.proofs.Rows.{Symmetric, paired}
 use Rattle.blossom.proofs.Certificate.{BetweenSearches}
 use Rattle.blossom.proofs.Scanning.{Searching}
 use Rattle.blossom.proofs.Augment.{augments}
-use Rattle.matching.specs.declared.matchings.Matching.{Matching}
+use Rattle.matching.specs.Arrays.{Arrays}
 use Rattle.matching.specs.Adjacency.{adjacent}
 use Rattle.matching.specs.Model.{entry}
 use Rattle.matching.specs.Search.{Standing, Settled}
@@ -35,7 +35,7 @@ paired-entry m l x y z h hx hy d =
       | different e ↦ cc
     ]
 
-module _ (R : List Request) (symmetric : Symmetric (adjacent R)) (r : ℕ) (s : Matching) (rows : List (List ℕ)) (T : Standing R r s rows)
+module _ (R : List Request) (symmetric : Symmetric (adjacent R)) (r : ℕ) (s : Arrays) (rows : List (List ℕ)) (T : Standing R r s rows)
     (scanned : ℕ → Bool)
     (S : Searching (adjacent R) (entry (length R) (s .mates)) (T .frozen-label) (T .frozen-base) r (T .state) scanned)
     (x y : ℕ) (ex : T .state .label x ≡ Even) (hy : y < length R) (fy : T .state .label y ≡ Free)
@@ -48,7 +48,7 @@ module _ (R : List Request) (symmetric : Symmetric (adjacent R)) (r : ℕ) (s : 
 
   mates-after : (z : ℕ) → paired (T .state .row x) x y z ≡ entry m (set (set (getD rows x []) x y) y x) z
   mates-after z =
-      let w = T .square .wide x (omega (arith, T .sized .few, x-inside)) in
+      let w = T .square .wide x x-inside in
       cc (
         paired-entry m (getD rows x []) x y z (omega (arith, T .sized .few)) x-inside hy (apart-by-even (T .state .label) x y (cc) (cc)),
         T .stands .row-is x z ex,
@@ -58,7 +58,7 @@ module _ (R : List Request) (symmetric : Symmetric (adjacent R)) (r : ℕ) (s : 
   enlarge-settled = record {
     sized = record {
       few = T .sized .few;
-      mates = simp length-set (T .square .wide x (omega (arith, T .sized .few, x-inside)));
+      mates = simp length-set (T .square .wide x x-inside);
       labels = T .sized .labels;
       bases = T .sized .bases;
       parents = T .sized .parents;

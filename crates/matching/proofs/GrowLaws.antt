@@ -16,29 +16,21 @@ use Rattle.blossom.proofs.Labels.{Free, Even, even?, apart-by-even}
 use Rattle.blossom.proofs.Rows.{Symmetric, grown-row}
 use Rattle.blossom.proofs.State.{State}
 use Rattle.blossom.proofs.Grow.{grown}
-use Rattle.blossom.proofs.Scanning.{scan-grow}
-use Rattle.matching.specs.declared.matchings.Matching.{Matching}
+use Rattle.blossom.proofs.Scanning.{Searching, search-grow, scan-grow}
+use Rattle.matching.specs.Arrays.{Arrays}
 use Rattle.matching.specs.Adjacency.{adjacent}
-use Rattle.matching.specs.Model.{entry, rowAt, labelOf, labelAt, settledOf, settledAt}
-use Rattle.matching.specs.Search.{Square, Stands, Standing, ScanAt}
+use Rattle.matching.specs.Model.{entry, rowAt, labelOf, labelAt, settledOf, settledAt, among}
+use Rattle.matching.specs.Search.{Stands, Standing, SearchAt, ScanAt}
 use Rattle.matching.specs.Steps.{grownRow, grownArrays}
 use Rattle.matching.proofs.ModelLaws.{entry-inside, entry-set, labelAt-set, settledAt-set, among-set, among-add}
+use Rattle.matching.proofs.RowLaws.{square-set}
 use Rattle.matching.proofs.StandingLaws.{even-inside, mate-inside, clock-room, unfrozen}
 
--- rows of 512 numbers, one of them anew
-pub square-set : (rows : List (List ℕ)) (i : ℕ) (row : List ℕ) → Square rows → i < 512 → length row ≡ 512 → Square (set rows i row)
-square-set rows i row S h e = record {
-  many = length-set rows i row ∙ S .many;
-  wide = λ j k. elim (test j i) [
-    | same f g ↦ ap length (ap (λ (w : ℕ). getD (set rows i row) w []) f ∙ getD-set-same rows i row [] (omega (arith, S .many))) ∙ e
-    | different f ↦ ap length (getD-set-other rows i j row [] (eqb-false j i (f .left))) ∙ S .wide j k
-  ];
-}
-
-pub row-set : (m : ℕ) (rows : List (List ℕ)) (i : ℕ) (row : List ℕ) → Square rows → i < 512
+-- one of the rows anew
+pub row-set : (m : ℕ) (rows : List (List ℕ)) (i : ℕ) (row : List ℕ) → i < length rows
     → (a z : ℕ) → rowAt m (set rows i row) a z ≡ cond (eqb a i) (entry m row z) (rowAt m rows a z)
-row-set m rows i row S h a z = elim (test a i) [
-  | same e f ↦ cc (getD-set-same rows i row [] (omega (arith, S .many)))
+row-set m rows i row h a z = elim (test a i) [
+  | same e f ↦ cc (getD-set-same rows i row [] h)
   | different e ↦ cc (getD-set-other rows i a row [] (eqb-false a i (e .left)))
 ]
 
@@ -54,17 +46,15 @@ grown-entry m l x y c z h hx hy hc d =
       | different e ↦ cc
     ]
 
-module _ (R : List Request) (symmetric : Symmetric (adjacent R)) (r : ℕ) (s : Matching) (rows : List (List ℕ)) (h x y : ℕ)
-    (at : ScanAt R r s rows h x y) (hy : y < length R) (fy : at .standing .state .label y ≡ Free)
+module _ (R : List Request) (symmetric : Symmetric (adjacent R)) (r : ℕ) (s : Arrays) (rows : List (List ℕ)) (T : Standing R r s rows) (scanned : ℕ → Bool)
+    (S : Searching (adjacent R) (entry (length R) (s .mates)) (T .frozen-label) (T .frozen-base) r (T .state) scanned)
+    (x y : ℕ) (x-even : T .state .label x ≡ Even) (hy : y < length R) (fy : T .state .label y ≡ Free)
     (ey : eqb (entry (length R) (s .mates) y) y ≡ false) (axy : adjacent R x y ≡ true) where
   abbrev m : ℕ
   m = length R
 
-  abbrev T : Standing R r s rows
-  T = at .standing
-
   abbrev state : State
-  state = at .standing .state
+  state = T .state
 
   abbrev M : ℕ → ℕ
   M = entry (length R) (s .mates)
@@ -81,14 +71,11 @@ module _ (R : List Request) (symmetric : Symmetric (adjacent R)) (r : ℕ) (s : 
   c-inside : c < m
   c-inside = mate-inside R r s rows T y hy
 
-  x-even : state .label x ≡ Even
-  x-even = at .scanning .partly .x-even
-
   x-inside : x < m
   x-inside = even-inside R s rows state (T .stands) x x-even
 
   free-c : state .label c ≡ Free
-  free-c = cc (mate-is, at .scanning .search .invariant .mate-free y fy)
+  free-c = cc (mate-is, S .invariant .mate-free y fy)
 
   x-y : Apart x y
   x-y = apart-by-even (state .label) x y (cc (x-even)) (cc)
@@ -118,7 +105,7 @@ module _ (R : List Request) (symmetric : Symmetric (adjacent R)) (r : ℕ) (s : 
   unfolding settledOf
   settled-after z =
       let free : (w : ℕ) → state .label w ≡ Free → T .frozen-label w ≡ Free = λ w e.
-      unfrozen (adjacent R) M (T .frozen-label) (T .frozen-base) r state (at .scanned) (at .scanning .search) w (cc)
+      unfrozen (adjacent R) M (T .frozen-label) (T .frozen-base) r state scanned S w (cc)
       in
       let e₁ = settledAt-set m (s .labels) y 2 z hy (omega (arith, few, T .sized .labels)) in
       let e₂ = settledAt-set m (set (s .labels) y 2) c 1 z c-inside (simp length-set (omega (arith, few, T .sized .labels))) in
@@ -133,11 +120,11 @@ module _ (R : List Request) (symmetric : Symmetric (adjacent R)) (r : ℕ) (s : 
 
   row-after : (a z : ℕ) → after .label a ≡ Even → after .row a z ≡ rowAt m (set rows c (grownRow rows x y c)) a z
   row-after a z e =
-      let w = row-set m rows c (grownRow rows x y c) (T .square) (omega (arith, few, c-inside)) a z in
+      let w = row-set m rows c (grownRow rows x y c) (omega (arith, T .square .many, c-inside)) a z in
       let e₀ = mate-is in
       elim (test a c) [
         | same f g ↦ cc (
-          grown-entry m (getD rows x []) x y c z (omega (arith, few, T .square .wide x (omega (arith, few, x-inside)))) x-inside hy c-inside x-y,
+          grown-entry m (getD rows x []) x y c z (omega (arith, few, T .square .wide x x-inside)) x-inside hy c-inside x-y,
           T .stands .row-is x z x-even,
           grown-row-cong (T .stands .row-is x) z,
         )
@@ -179,35 +166,53 @@ module _ (R : List Request) (symmetric : Symmetric (adjacent R)) (r : ℕ) (s : 
         ∙ sym (among-add (s .queue) (s .clock) c z (omega (arith, grow-room, T .sized .queue)))));
   }
 
-  pub grow-stands : ScanAt R r (grownArrays s x y c) (set rows c (grownRow rows x y c)) h x (y + 1)
-  grow-stands = record {
-    standing = record {
-      sized = record {
-        few = few;
-        mates = T .sized .mates;
-        labels = simp length-set (T .sized .labels);
-        bases = simp length-set (T .sized .bases);
-        parents = simp length-set (T .sized .parents);
-        queue = simp length-set (T .sized .queue);
-        bases-inside = λ z l. elim (test z c) [
-          | same e f ↦
-              let b : getD (set (s .bases) c c) z 0 ≡ c = cc (getD-set-same (s .bases) c c 0 (omega (arith, few, c-inside, T .sized .bases))) in
-              omega (arith, c-inside)
-          | different e ↦ omega (arith, getD-set-other (s .bases) c z c 0 (eqb-false z c (e .left)), T .sized .bases-inside z l)
-        ];
-      };
-      square = square-set rows c (grownRow rows x y c) (T .square) (omega (arith, few, c-inside))
-          (simp length-set (T .square .wide x (omega (arith, few, x-inside))));
-      frozen-label = T .frozen-label;
-      frozen-base = T .frozen-base;
-      frozen-label-is = settled-after;
-      between = T .between;
-      state = after;
-      stands = stands-after;
+  pub grown-stands : Standing R r (grownArrays s x y c) (set rows c (grownRow rows x y c))
+  grown-stands = record {
+    sized = record {
+      few = few;
+      mates = T .sized .mates;
+      labels = simp length-set (T .sized .labels);
+      bases = simp length-set (T .sized .bases);
+      parents = simp length-set (T .sized .parents);
+      queue = simp length-set (T .sized .queue);
+      bases-inside = λ z l. elim (test z c) [
+        | same e f ↦
+            let b : getD (set (s .bases) c c) z 0 ≡ c = cc (getD-set-same (s .bases) c c 0 (omega (arith, few, c-inside, T .sized .bases))) in
+            omega (arith, c-inside)
+        | different e ↦ omega (arith, getD-set-other (s .bases) c z c 0 (eqb-false z c (e .left)), T .sized .bases-inside z l)
+      ];
     };
-    scanned = at .scanned;
-    scanned-is = λ z. at .scanned-is z ∙ sym (among-set (s .queue) h (s .clock) c z (omega (arith, at .next)));
-    next = omega (arith, at .next);
-    current = at .current ∙ sym (getD-set-other (s .queue) (s .clock) h c 0 (λ e. omega (arith, at .next)));
-    scanning = rw add-one (scan-grow (adjacent R) symmetric M (T .frozen-label) (T .frozen-base) r state (at .scanned) x y (at .scanning) fy ey axy);
+    square = square-set m rows c (grownRow rows x y c) (T .square) c-inside
+        (simp length-set (T .square .wide x x-inside));
+    frozen-label = T .frozen-label;
+    frozen-base = T .frozen-base;
+    frozen-label-is = settled-after;
+    between = T .between;
+    state = after;
+    stands = stands-after;
   }
+
+  -- no vertex is being scanned
+  pub search-grows : (h : ℕ) → h ≤ s .clock → ((z : ℕ) → scanned z ≡ among (s .queue) h z) → SearchAt R r (grownArrays s x y c) (set rows c (grownRow rows x y c)) h
+  unfolding grown-stands
+  search-grows h within scanned-is = record {
+    standing = grown-stands;
+    scanned = scanned;
+    scanned-is = λ z. scanned-is z ∙ sym (among-set (s .queue) h (s .clock) c z (omega arith));
+    within = omega arith;
+    searching = search-grow (adjacent R) symmetric M (T .frozen-label) (T .frozen-base) r state scanned S x y x-even fy ey axy;
+  }
+
+-- x is being scanned, and y comes next
+pub grow-stands : (R : List Request) (symmetric : Symmetric (adjacent R)) (r : ℕ) (s : Arrays) (rows : List (List ℕ)) (h x y : ℕ)
+    (at : ScanAt R r s rows h x y) → y < length R → at .standing .state .label y ≡ Free → eqb (entry (length R) (s .mates) y) y ≡ false → adjacent R x y ≡ true
+    → ScanAt R r (grownArrays s x y (getD (s .mates) y 0)) (set rows (getD (s .mates) y 0) (grownRow rows x y (getD (s .mates) y 0))) h x (y + 1)
+unfolding grown-stands
+grow-stands R symmetric r s rows h x y at hy fy ey axy = let T = at .standing in let c = getD (s .mates) y 0 in record {
+  standing = grown-stands R symmetric r s rows T (at .scanned) (at .scanning .search) x y (at .scanning .partly .x-even) hy fy ey axy;
+  scanned = at .scanned;
+  scanned-is = λ z. at .scanned-is z ∙ sym (among-set (s .queue) h (s .clock) c z (omega (arith, at .next)));
+  next = omega (arith, at .next);
+  current = at .current ∙ sym (getD-set-other (s .queue) (s .clock) h c 0 (λ e. omega (arith, at .next)));
+  scanning = rw add-one (scan-grow (adjacent R) symmetric (entry (length R) (s .mates)) (T .frozen-label) (T .frozen-base) r (T .state) (at .scanned) x y (at .scanning) fy ey axy);
+}

@@ -3,16 +3,17 @@ use Prim.Native.Nat.{ℕ, _<_, _≤_}
 use mathlib.Core.Path.{_≡_, ap, _∙_}
 use mathlib.Core.Bool.{true, false, _&&_}
 use mathlib.Core.List.{List, []}
+use native.Mathlib.Omega.{arith}
 use lib.Dec.{eqb, ltb}
 use lib.ListN.{length, replicate, length-replicate, getD-replicate}
 use borrow.Author.Tests.{eqb-true, ltb-true, eq-eqb, ne-eqb}
 use Rattle.ring.proofs.Cases.{yes, no, is, less, not-less, compare, impossible}
 use Rattle.matching.specs.Search.{Square}
 
-pub square-blank : (row : List ℕ) → length row ≡ 512 → Square (replicate 512 row)
-square-blank row e = record {
-  many = length-replicate 512 row;
-  wide = λ i h. ap length (getD-replicate 512 i row [] h) ∙ e;
+pub square-blank : (m k : ℕ) (row : List ℕ) → m ≤ k → length row ≡ 512 → Square m (replicate k row)
+square-blank m k row h e = record {
+  many = omega (arith, length-replicate k row);
+  wide = λ i l. ap length (getD-replicate k i row [] (omega arith)) ∙ e;
 }
 
 pub open-exposed : (a r n : ℕ) → (eqb a r && ltb n 3) ≡ true → a ≡ r

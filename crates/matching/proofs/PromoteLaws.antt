@@ -1,4 +1,4 @@
--- One turn of the loops of a blossom: over the new bases, and over the vertices that become even.
+-- The test that a vertex comes to a blossom, and the loop over the vertices that become even.
 use Prim.Native.Nat.{ℕ, zero, suc, _+_, _<_, _≤_}
 use mathlib.Core.Path.{_≡_, refl, _∙_}
 use mathlib.Core.Bool.{Bool, true, false, not, _&&_, _||_}
@@ -11,8 +11,7 @@ use lib.Seq.{getD-set-same, getD-set-other}
 use borrow.Author.Tests.{eqb-false, ne-eqb, lt-ltb, le-ltb}
 use Rattle.ring.proofs.Cases.{yes, no, is, same, different, test, less, not-less, compare}
 use Rattle.ring.proofs.Counting.{sum, count, bit}
-use Rattle.matching.specs.declared.matchings.Matching.{Matching}
-use Rattle.matching.specs.Steps.{onCycle, joinsBlossom, newBase, promotedArrays, Promoted}
+use Rattle.matching.specs.Steps.{onCycle, joinsBlossom, Promoted}
 use Rattle.matching.proofs.ModelLaws.{among-add}
 
 -- the test that a vertex comes to the blossom, by the ways through the code
@@ -29,32 +28,6 @@ module _ (labels mates bases sides : List ℕ) (z : ℕ) where
       → not (eqb (getD sides e 0) 0) ≡ joinsBlossom labels mates bases sides z
   unfolding joinsBlossom
   joins-base f g b e i j = cc
-
--- the bases below n are new
-pub record Rebased (labels mates bases sides : List ℕ) (b n : ℕ) (after : List ℕ) : Type 0 where
-  pub new : (z : ℕ) → z < n → getD after z 0 ≡ newBase labels mates bases sides b z
-  pub old : (z : ℕ) → n ≤ z → getD after z 0 ≡ getD bases z 0
-
-module _ (labels mates bases sides : List ℕ) (b n : ℕ) (after : List ℕ) (H : Rebased labels mates bases sides b n after) where
-  pub rebase-joins : n < length after → joinsBlossom labels mates bases sides n ≡ true → Rebased labels mates bases sides b (n + 1) (set after n b)
-  unfolding newBase
-  rebase-joins h j = record {
-    new = λ z l. elim (test z n) [
-      | same e f ↦ cc (getD-set-same after n b 0 h)
-      | different e ↦ getD-set-other after n z b 0 (eqb-false z n (e .left)) ∙ H .new z (omega (arith, eqb-false z n (e .left)))
-    ];
-    old = λ z l. getD-set-other after n z b 0 (λ e. omega arith) ∙ H .old z (omega arith);
-  }
-
-  pub rebase-stays : joinsBlossom labels mates bases sides n ≡ false → Rebased labels mates bases sides b (n + 1) after
-  unfolding newBase
-  rebase-stays j = record {
-    new = λ z l. elim (test z n) [
-      | same e f ↦ cc (H .old n (omega arith))
-      | different e ↦ H .new z (omega (arith, eqb-false z n (e .left)))
-    ];
-    old = λ z l. H .old z (omega arith);
-  }
 
 -- sums over more numbers
 pub sum-more : (f : ℕ → ℕ) (a b : ℕ) → a ≤ b → sum f a ≤ sum f b
@@ -83,39 +56,30 @@ on-next sides n z = elim (test z n) [
   ]
 ]
 
-pub promoted-none : (m : ℕ) (sides : List ℕ) (s : Matching) → Promoted m 0 sides s s
+pub promoted-none : (m : ℕ) (sides : List ℕ) (labels queue : List ℕ) (clock : ℕ) → Promoted m 0 sides labels queue clock labels queue clock
 unfolding onCycle sum
-promoted-none m sides s = record {
-  mates = refl;
-  bases = refl;
-  parents = refl;
-  size = refl;
-  done = refl;
+promoted-none m sides labels queue clock = record {
   labels-length = refl;
   queue-length = refl;
   label = λ z. cc (le-ltb z 0 (omega arith));
-  clock = omega arith;
+  counted = omega arith;
   before = λ i h. refl;
   queued = λ z. cc (le-ltb z 0 (omega arith));
 }
 
-module _ (m n : ℕ) (sides : List ℕ) (s t : Matching) (P : Promoted m n sides s t) (h : n < m) where
-  pub promoted-skip : getD sides n 0 ≡ 0 → Promoted m (n + 1) sides s t
+module _ (m n : ℕ) (sides labels queue : List ℕ) (clock : ℕ) (labels' queue' : List ℕ) (clock' : ℕ)
+    (P : Promoted m n sides labels queue clock labels' queue' clock') (h : n < m) where
+  pub promoted-skip : getD sides n 0 ≡ 0 → Promoted m (n + 1) sides labels queue clock labels' queue' clock'
   unfolding onCycle
   promoted-skip e =
       let same-cycle : (z : ℕ) → onCycle (n + 1) sides z ≡ onCycle n sides z = λ z. unchanged z e in
       record {
-        mates = P .mates;
-        bases = P .bases;
-        parents = P .parents;
-        size = P .size;
-        done = P .done;
         labels-length = P .labels-length;
         queue-length = P .queue-length;
         label = λ z. cc (P .label z, same-cycle z);
-        clock =
+        counted =
             let b : bit (onCycle m sides n) ≡ 0 = cc (lt-ltb n m h) in
-            omega (arith, P .clock, count-next (onCycle m sides) n);
+            omega (arith, P .counted, count-next (onCycle m sides) n);
         before = P .before;
         queued = λ z. cc (P .queued z, same-cycle z);
       }
@@ -123,34 +87,42 @@ module _ (m n : ℕ) (sides : List ℕ) (s t : Matching) (P : Promoted m n sides
       unchanged : (z : ℕ) → getD sides n 0 ≡ 0 → onCycle (n + 1) sides z ≡ onCycle n sides z
       unchanged z e = elim (is (eqb z n)) [ yes f ↦ cc (on-next sides n z) | no f ↦ cc (on-next sides n z) ]
 
-  pub promoted-room : (getD sides n 0 ≡ 0 → ⊥) → s .clock + count (onCycle m sides) m ≤ 512 → t .clock < 512
+  pub promoted-room : (getD sides n 0 ≡ 0 → ⊥) → clock + count (onCycle m sides) m ≤ 512 → clock' < 512
   unfolding onCycle
   promoted-room e room =
       let b : bit (onCycle m sides n) ≡ 1 = cc (lt-ltb n m h, ne-eqb (getD sides n 0) 0 e) in
-      omega (arith, P .clock, count-next (onCycle m sides) n, sum-more (λ z. bit (onCycle m sides z)) (n + 1) m (omega arith))
+      omega (arith, P .counted, count-next (onCycle m sides) n, sum-more (λ z. bit (onCycle m sides z)) (n + 1) m (omega arith))
 
-  pub promoted-take : (getD sides n 0 ≡ 0 → ⊥) → n < length (t .labels) → t .clock < length (t .queue) → Promoted m (n + 1) sides s (promotedArrays t n)
+  pub promoted-take : (getD sides n 0 ≡ 0 → ⊥) → n < length labels' → clock' < length queue' → Promoted m (n + 1) sides labels queue clock (set labels' n 1) (set queue' clock' n) (clock' + 1)
   unfolding onCycle
   promoted-take e hl hq =
       let f = ne-eqb (getD sides n 0) 0 e in
       record {
-        mates = P .mates;
-        bases = P .bases;
-        parents = P .parents;
-        size = P .size;
-        done = P .done;
-        labels-length = length-set (t .labels) n 1 ∙ P .labels-length;
-        queue-length = length-set (t .queue) (t .clock) n ∙ P .queue-length;
+        labels-length = length-set labels' n 1 ∙ P .labels-length;
+        queue-length = length-set queue' clock' n ∙ P .queue-length;
         label = λ z. let o = on-next sides n z in elim (test z n) [
-          | same g i ↦ cc (getD-set-same (t .labels) n 1 0 hl)
-          | different g ↦ cc (getD-set-other (t .labels) n z 1 0 (eqb-false z n (g .left)), P .label z)
+          | same g i ↦ cc (getD-set-same labels' n 1 0 hl)
+          | different g ↦ cc (getD-set-other labels' n z 1 0 (eqb-false z n (g .left)), P .label z)
         ];
-        clock =
+        counted =
             let b : bit (onCycle m sides n) ≡ 1 = cc (lt-ltb n m h) in
-            omega (arith, P .clock, count-next (onCycle m sides) n);
-        before = λ i l. getD-set-other (t .queue) (t .clock) i n 0 (λ g. omega (arith, P .clock)) ∙ P .before i l;
-        queued = λ z. let o = on-next sides n z in rw add-one (among-add (t .queue) (t .clock) n z hq ∙ elim (is (eqb z n)) [
+            omega (arith, P .counted, count-next (onCycle m sides) n);
+        before = λ i l. getD-set-other queue' clock' i n 0 (λ g. omega (arith, P .counted)) ∙ P .before i l;
+        queued = λ z. let o = on-next sides n z in rw add-one (among-add queue' clock' n z hq ∙ elim (is (eqb z n)) [
           | yes g ↦ cc
           | no g ↦ cc (P .queued z)
         ]);
       }
+
+-- the vertices from n up to k are off the cycle
+pub promoted-between : (m n k : ℕ) (sides labels queue : List ℕ) (clock : ℕ) (labels' queue' : List ℕ) (clock' : ℕ)
+    → Promoted m n sides labels queue clock labels' queue' clock' → n ≤ k → k ≤ m → ((z : ℕ) → n ≤ z → z < k → getD sides z 0 ≡ 0)
+    → Promoted m k sides labels queue clock labels' queue' clock'
+promoted-between m n zero sides labels queue clock labels' queue' clock' P h l off = let e : n ≡ 0 = omega arith in rw e at P
+promoted-between m n (suc k) sides labels queue clock labels' queue' clock' P h l off = elim (test n (suc k)) [
+  | same e t ↦ rw e at P
+  | different d ↦
+      let before : n ≤ k = omega (arith, eqb-false n (suc k) (d .left)) in
+      let Q = promoted-between m n k sides labels queue clock labels' queue' clock' P before (omega arith) (λ z a b. off z a (omega arith)) in
+      rw (add-one k) at (promoted-skip m k sides labels queue clock labels' queue' clock' Q (omega arith) (off k before (omega arith)))
+]

@@ -1,19 +1,20 @@
 -- Laws of the rows of a blossom, over plain lists.
 use Prim.Native.Nat.{ℕ, _+_, _<_, _≤_}
 use mathlib.Core.Path.{_≡_, refl, sym, ap, _∙_}
-use mathlib.Core.Bool.{Bool, true, false, not, cond}
+use mathlib.Core.Bool.{Bool, true, false, not, cond, _||_}
 use mathlib.Core.List.{List, []}
-use mathlib.Core.Logic.{_⊎_, ⊎-elim}
+use native.Mathlib.Decide.{decLt}
 use native.Mathlib.Omega.{arith}
 use lib.Dec.{eqb}
 use borrow.Author.Tests.{eq-eqb, ne-eqb, eqb-false}
 use lib.ListN.{length, getD, set, length-set}
 use lib.Seq.{getD-set-same, getD-set-other}
-use Rattle.ring.proofs.Cases.{Apart, same, different, test}
+use Rattle.ring.proofs.Cases.{same, different, test, impossible}
+use Rattle.sets.specs.Sets.{has}
 use Rattle.blossom.proofs.Labels.{Free, Frozen}
 use Rattle.blossom.proofs.State.{below-test}
 use Rattle.matching.specs.Model.{labelOf}
-use Rattle.matching.specs.Rows.{cell, belowIn, mixedEntry, absorbedEntry, sideOf, Readable, AbsorbedRow, AbsorbedVertex, Absorbed}
+use Rattle.matching.specs.Rows.{cell, belowIn, mixedEntry, absorbedEntry, sideOf, Readable, AbsorbedRow, AbsorbedVertex}
 use Rattle.matching.specs.Search.{Square}
 
 -- a vertex that is free or frozen is below none
@@ -92,6 +93,55 @@ filled-turn f r n value filled room right k less = elim (test k n) [
       getD-set-other r n k value 0 other ∙ filled k (omega arith)
 ]
 
+-- the entries below n that are not 0 are those of vertices in the set
+abbrev pub Covered : List ℕ → List ℕ → ℕ → Type 0
+Covered words r n = (k : ℕ) → k < n → has words k ≡ false → getD r k 0 ≡ 0
+
+pub covered-none : (words r : List ℕ) (n value : ℕ) → Covered words r n → n < length r → value ≡ 0 → Covered words (set r n value) (n + 1)
+covered-none words r n value C room zero k less e = elim (test k n) [
+  | same f t ↦ rw f (getD-set-same r n value 0 room ∙ zero)
+  | different d ↦
+      let other : k ≡ n → ⊥ = eqb-false k n (d .left) in
+      getD-set-other r n k value 0 other ∙ C k (omega arith) e
+]
+
+pub covered-one : (words after r : List ℕ) (n value : ℕ) → Covered words r n → ((k : ℕ) → has after k ≡ (eqb k n || has words k)) → Covered after (set r n value) (n + 1)
+covered-one words after r n value C more k less e = elim (test k n) [
+  | same f t ↦ impossible (cc (more k))
+  | different d ↦
+      let other : k ≡ n → ⊥ = eqb-false k n (d .left) in
+      getD-set-other r n k value 0 other ∙ C k (omega arith) (cc (more k))
+]
+
+-- a list of g that a loop over a set makes one of f: the entries below n are done
+pub record Mended (f g : ℕ → ℕ) (r : List ℕ) (n : ℕ) : Type 0 where
+  pub done : Filled f r n
+  pub rest : (k : ℕ) → n ≤ k → getD r k 0 ≡ g k
+
+module _ (f g : ℕ → ℕ) (set-of : List ℕ) (m : ℕ) (agree : (k : ℕ) → k < m → has set-of k ≡ false → f k ≡ g k) where
+  -- the loop goes on to the next vertex of the set
+  pub mended-skip : (r : List ℕ) (n next : ℕ) → Mended f g r n → n ≤ next → next ≤ m → ((k : ℕ) → n ≤ k → k < next → has set-of k ≡ false) → Mended f g r next
+  mended-skip r n next H h l none =
+      record {
+        done =
+            λ k b.
+            elim (decLt k n) [
+              | yes a ↦ H .done k a
+              | no a ↦ H .rest k (omega arith) ∙ sym (agree k (omega arith) (none k (omega arith) b))
+            ];
+        rest = λ k b. H .rest k (omega arith);
+      }
+
+  pub mended-turn : (r : List ℕ) (n next value : ℕ) → Mended f g r n → n < length r → value ≡ f n → n + 1 ≤ next → next ≤ m
+      → ((k : ℕ) → n + 1 ≤ k → k < next → has set-of k ≡ false) → Mended f g (set r n value) next
+  mended-turn r n next value H room right h l none =
+      mended-skip (set r n value) (n + 1) next
+      (record {
+        done = filled-turn f r n value (H .done) room right;
+        rest = λ k b. getD-set-other r n k value 0 (λ e. omega arith) ∙ H .rest k (omega arith);
+      })
+      h l none
+
 -- an entry after a store
 entry-set : (r : List ℕ) (i a z : ℕ) → i < length r → getD (set r i a) z 0 ≡ cond (eqb z i) a (getD r z 0)
 entry-set r i a z room = elim (test z i) [
@@ -114,11 +164,11 @@ row-end m rows labels mates p q v r lp lq lv wide filled =
     }
 
 -- a row of the right length may be stored
-square-set : (rows : List (List ℕ)) (v : ℕ) (r : List ℕ) → Square rows → v < 512 → length r ≡ 512 → Square (set rows v r)
-square-set rows v r square inside wide =
+pub square-set : (m : ℕ) (rows : List (List ℕ)) (v : ℕ) (r : List ℕ) → Square m rows → v < m → length r ≡ 512 → Square m (set rows v r)
+square-set m rows v r square inside wide =
     let room : v < length rows = omega (arith, square .many) in
     record {
-      many = simp length-set (square .many);
+      many = omega (arith, length-set rows v r, square .many);
       wide =
           λ i less.
           elim (test i v) [
@@ -128,15 +178,15 @@ square-set rows v r square inside wide =
     }
 
 -- one vertex that is on a side: its row is stored
-module _ (m : ℕ) (rows : List (List ℕ)) (labels mates : List ℕ) (side x y v : ℕ) (square : Square rows) where
-  module _ (inside : v < 512) (r : List ℕ) where
+module _ (m : ℕ) (rows : List (List ℕ)) (labels mates : List ℕ) (side x y v : ℕ) (square : Square m rows) where
+  module _ (inside : v < m) (r : List ℕ) where
     stored : (z : ℕ) → cell (set rows v r) v z ≡ getD r z 0
     stored z = ap (λ (l : List ℕ). getD l z 0) (getD-set-same rows v r [] (omega (arith, square .many)))
 
     pub vertex-first : side ≡ 1 → AbsorbedRow m rows labels mates x y v r → AbsorbedVertex m rows (set rows v r) labels mates side x y v
     vertex-first first row =
         record {
-          square = square-set rows v r square inside (row .wide);
+          square = square-set m rows v r square inside (row .wide);
           others = λ w h. getD-set-other rows v w r [] h;
           unmoved = λ h. absurd (eqb-false 0 1 refl (sym h ∙ first));
           first = λ h z less. stored z ∙ row .entries z less;
@@ -146,7 +196,7 @@ module _ (m : ℕ) (rows : List (List ℕ)) (labels mates : List ℕ) (side x y 
     pub vertex-second : side ≡ 2 → AbsorbedRow m rows labels mates y x v r → AbsorbedVertex m rows (set rows v r) labels mates side x y v
     vertex-second second row =
         record {
-          square = square-set rows v r square inside (row .wide);
+          square = square-set m rows v r square inside (row .wide);
           others = λ w h. getD-set-other rows v w r [] h;
           unmoved = λ h. absurd (eqb-false 0 2 refl (sym h ∙ second));
           first = λ h. absurd (eqb-false 1 2 refl (sym h ∙ second));
@@ -164,94 +214,3 @@ readable-turned h =
       x-even = h .y-even;
       y-even = h .x-even;
     }
-
--- rows that agree at the even vertices give the same absorbed rows
-module _ (m : ℕ) (rows now : List (List ℕ)) (labels mates : List ℕ)
-    (kept : (w : ℕ) → w < 512 → getD labels w 0 ≡ 1 → getD now w [] ≡ getD rows w []) where
-  same-below : (x y v z : ℕ) → Readable m labels mates x y → z < m → belowIn now labels mates v z ≡ belowIn rows labels mates v z
-  same-below x y v z readable less = elim (test (getD labels z 0) 1) [
-    | same even t ↦ cc (below-even now labels mates v z even, below-even rows labels mates v z even, kept z (omega (arith, readable .few)) even)
-    | different d ↦ elim (test (getD labels z 0) 2) [
-      | different e ↦
-          cc (
-            below-none now labels mates v z (eqb-false _ _ (d .left)) (eqb-false _ _ (e .left)),
-            below-none rows labels mates v z (eqb-false _ _ (d .left)) (eqb-false _ _ (e .left)),
-          )
-      | same odd t ↦ elim (test z v) [
-        | same self u ↦ cc (below-self now labels mates v z odd self, below-self rows labels mates v z odd self)
-        | different u ↦
-            cc (
-              below-odd now labels mates v z odd (eqb-false _ _ (u .left)),
-              below-odd rows labels mates v z odd (eqb-false _ _ (u .left)),
-              kept (getD mates z 0) (omega (arith, readable .few, readable .inside z less)) (readable .mate-even z less odd),
-            )
-      ]
-    ]
-  ]
-
-  pub same-entry : (x y v z : ℕ) → Readable m labels mates x y → z < m
-      → absorbedEntry now labels mates x y v z ≡ absorbedEntry rows labels mates x y v z
-  unfolding absorbedEntry
-  same-entry x y v z readable less =
-      cc (
-        same-below x y v z readable less,
-        kept x (omega (arith, readable .few, readable .x-inside)) (readable .x-even),
-        kept y (omega (arith, readable .few, readable .y-inside)) (readable .y-even),
-      )
-
--- the loop over the vertices: those below n have got their rows
-pub record AbsorbedBelow (n m : ℕ) (rows now : List (List ℕ)) (labels mates sides : List ℕ) (x y : ℕ) : Type 0 where
-  pub square : Square now
-  pub kept : (v : ℕ) → v < 512 → getD labels v 0 ≡ 1 → getD now v [] ≡ getD rows v []
-  pub first : (v z : ℕ) → v < n → z < m → getD sides v 0 ≡ 1 → cell now v z ≡ absorbedEntry rows labels mates x y v z
-  pub second : (v z : ℕ) → v < n → z < m → getD sides v 0 ≡ 2 → cell now v z ≡ absorbedEntry rows labels mates y x v z
-
-module _ (m : ℕ) (rows : List (List ℕ)) (labels mates sides : List ℕ) (x y : ℕ) where
-  pub absorb-start : Square rows → AbsorbedBelow 0 m rows rows labels mates sides x y
-  absorb-start square = record { square = square; kept = λ v h e. refl; first = λ v z h. absurd (none v h); second = λ v z h. absurd (none v h) }
-    where
-      none : (v : ℕ) → v < 0 → ⊥
-      none v h = omega arith
-
-  pub absorb-turn : (n : ℕ) (now after : List (List ℕ)) → Readable m labels mates x y
-      → ((v : ℕ) → v < m → (getD sides v 0 ≡ 0) ⊎ (getD labels v 0 ≡ 2)) → n < m → AbsorbedBelow n m rows now labels mates sides x y
-      → AbsorbedVertex m now after labels mates (getD sides n 0) x y n → AbsorbedBelow (n + 1) m rows after labels mates sides x y
-  absorb-turn n now after readable odd less before vertex =
-      record {
-        square = vertex .square;
-        kept =
-            λ v h even.
-            elim (test v n) [
-              | same e t ↦ at-n v even e (odd n less) ∙ before .kept v h even
-              | different d ↦ vertex .others v (eqb-false v n (d .left)) ∙ before .kept v h even
-            ];
-        first =
-            λ v z h k side.
-            elim (test v n) [
-              | same e t ↦
-                  rw e (vertex .first (rw e at side) z k ∙ same-entry m rows now labels mates (before .kept) x y n z readable k)
-              | different d ↦ other v z d ∙ before .first v z (below v h d) k side
-            ];
-        second =
-            λ v z h k side.
-            elim (test v n) [
-              | same e t ↦
-                  rw e (vertex .second (rw e at side) z k ∙ same-entry m rows now labels mates (before .kept) y x n z (readable-turned readable) k)
-              | different d ↦ other v z d ∙ before .second v z (below v h d) k side
-            ];
-      }
-    where
-      at-n : (v : ℕ) → getD labels v 0 ≡ 1 → v ≡ n → (getD sides n 0 ≡ 0) ⊎ (getD labels n 0 ≡ 2) → getD after v [] ≡ getD now v []
-      at-n v even e =
-          ⊎-elim (λ none. rw e (vertex .unmoved none)) (λ two. absurd (eqb-false 1 2 refl (sym even ∙ rw e two)))
-
-      other : (v z : ℕ) → Apart v n → cell after v z ≡ cell now v z
-      other v z d = ap (λ (l : List ℕ). getD l z 0) (vertex .others v (eqb-false v n (d .left)))
-
-      below : (v : ℕ) → v < n + 1 → Apart v n → v < n
-      below v h d = let distinct : v ≡ n → ⊥ = eqb-false v n (d .left) in omega arith
-
-  pub absorb-end : (n : ℕ) (now : List (List ℕ)) → m ≤ n → AbsorbedBelow n m rows now labels mates sides x y
-      → Absorbed m rows now labels mates sides x y
-  absorb-end n now all h =
-      record { kept = h .kept; first = λ v z less. h .first v z (omega arith); second = λ v z less. h .second v z (omega arith) }

@@ -1,8 +1,9 @@
 -- The turns of a scan, and how a part of a search comes out.
-use Prim.Native.Nat.{ℕ, suc, _+_, _<_, _≤_}
-use mathlib.Core.Path.{_≡_, refl, sym, _∙_}
+use Prim.Native.Nat.{ℕ, suc, _+_, _-_, _<_, _≤_}
+use mathlib.Core.Path.{_≡_, refl, sym, ap, _∙_, subst}
 use mathlib.Core.Bool.{Bool, true, false, not, _&&_, _||_}
 use mathlib.Core.List.{List}
+use native.Mathlib.Nat.{add-zero}
 use native.Mathlib.Numerals.{add-one}
 use native.Mathlib.Omega.{arith}
 use lib.Dec.{eqb}
@@ -13,18 +14,15 @@ use Rattle.ring.specs.declared.requests.Request.{Request}
 use Rattle.blossom.proofs.Labels.{Label, Free, Even, Odd, Frozen, even?}
 use Rattle.blossom.proofs.Rows.{Symmetric}
 use Rattle.blossom.proofs.Scanning.{scan-begin, scan-end, scan-skip}
-use Rattle.matching.specs.declared.matchings.Matching.{Matching}
+use Rattle.matching.specs.Arrays.{Arrays}
 use Rattle.matching.specs.Adjacency.{adjacent}
-use Rattle.matching.specs.Model.{entry, labelOf}
-use Rattle.matching.specs.Search.{Settled, SearchAt, ScanAt, Outcome}
-use Rattle.matching.specs.Steps.{grownRow, grownArrays, enlargedArrays, Exposed}
-use Rattle.matching.specs.Progress.{relevantIn, Ahead, stays, enlarges}
-use Rattle.matching.proofs.ModelLaws.{entry-inside, among-at}
+use Rattle.matching.specs.Model.{entry, labelOf, among}
+use Rattle.matching.specs.Search.{Standing, SearchAt, ScanAt}
+use Rattle.matching.specs.Progress.{freeIn, relevantIn, First}
+use Rattle.matching.proofs.ModelLaws.{entry-inside, labelAt-inside, among-at}
 use Rattle.matching.proofs.AdjacencyLaws.{adjacent-inside}
-use Rattle.matching.proofs.StandingLaws.{even-inside, label-number, clock-most}
+use Rattle.matching.proofs.StandingLaws.{even-inside, label-number}
 use Rattle.matching.proofs.CycleLaws.{is-even-number, is-free-number, label-inside}
-use Rattle.matching.proofs.EnlargeLaws.{enlarge-settled}
-use Rattle.matching.proofs.GrowLaws.{grow-room, grow-stands}
 
 even-label : (l : Label) → even? l ≡ true → l ≡ Even
 even-label Free e = cc
@@ -62,29 +60,23 @@ pub relevant-label : (R : List Request) (labels bases : List ℕ) (x y : ℕ) �
 unfolding relevantIn
 relevant-label R labels bases x y e = relevant-small (getD labels y 0) (eqb (getD bases x 0) (getD bases y 0)) (adjacent R x y) e
 
+pub free-neighbour : (R : List Request) (labels : List ℕ) (x y : ℕ) → freeIn R labels x y ≡ true → adjacent R x y ≡ true
+unfolding freeIn
+free-neighbour R labels x y e = elim (is (eqb (getD labels y 0) 0)) [ yes f ↦ cc | no f ↦ cc ]
+
+pub free-label : (R : List Request) (labels : List ℕ) (x y : ℕ) → freeIn R labels x y ≡ true → getD labels y 0 ≡ 0
+unfolding freeIn
+free-label R labels x y e = elim (is (eqb (getD labels y 0) 0)) [ yes f ↦ eqb-true (getD labels y 0) 0 f | no f ↦ impossible (cc) ]
+
+pub free-not : (R : List Request) (labels : List ℕ) (x y : ℕ) → (getD labels y 0 ≡ 0 → ⊥) → false ≡ freeIn R labels x y
+unfolding freeIn
+free-not R labels x y n = cc (ne-eqb (getD labels y 0) 0 n)
+
 irrelevant-even : (same adj : Bool) → ((false || true && not same) && adj) ≡ false → adj ≡ true → same ≡ true
 irrelevant-even true adj e f = refl
 irrelevant-even false adj e f = cc
 
--- the test of the code, by the ways through it
-module _ (R : List Request) (labels bases : List ℕ) (x y : ℕ) where
-  pub relevant-free : getD labels y 0 ≡ 0 → (a : Bool) → a ≡ adjacent R x y → a ≡ relevantIn R labels bases x y
-  unfolding relevantIn
-  relevant-free e a f = cc
-
-  pub relevant-even : getD labels y 0 ≡ 1 → (getD bases x 0 ≡ getD bases y 0 → ⊥) → (a : Bool) → a ≡ adjacent R x y → a ≡ relevantIn R labels bases x y
-  unfolding relevantIn
-  relevant-even e n a f = cc (ne-eqb (getD bases x 0) (getD bases y 0) n)
-
-  pub relevant-same : getD labels y 0 ≡ 1 → getD bases x 0 ≡ getD bases y 0 → false ≡ relevantIn R labels bases x y
-  unfolding relevantIn
-  relevant-same e f = cc (eq-eqb (getD bases x 0) (getD bases y 0) f)
-
-  pub relevant-none : (getD labels y 0 ≡ 0 → ⊥) → (getD labels y 0 ≡ 1 → ⊥) → false ≡ relevantIn R labels bases x y
-  unfolding relevantIn
-  relevant-none e f = cc (ne-eqb (getD labels y 0) 0 e, ne-eqb (getD labels y 0) 1 f)
-
-module _ (R : List Request) (symmetric : Symmetric (adjacent R)) (r : ℕ) (s : Matching) (rows : List (List ℕ)) (h : ℕ) where
+module _ (R : List Request) (symmetric : Symmetric (adjacent R)) (r : ℕ) (s : Arrays) (rows : List (List ℕ)) (h : ℕ) where
   abbrev m : ℕ
   m = length R
 
@@ -153,52 +145,60 @@ module _ (R : List Request) (symmetric : Symmetric (adjacent R)) (r : ℕ) (s : 
           x n (at .scanning) (λ a b f. omega (arith, adjacent-inside R a b f));
     }
 
-    enlarged-by : (u v : ℕ) → at .standing .state .label u ≡ Even → Exposed R (s .mates) (s .labels) u v → Settled R (enlargedArrays s rows u v) (suc r)
-    unfolding labelOf
-    enlarged-by u v eu E =
-        let T = at .standing in
-        enlarge-settled R symmetric r s rows T (at .scanned) (at .scanning .search) u v eu (E .inside)
-        (label-number R s rows (T .state) (T .stands) v 0 (E .inside) (E .free)) (entry-inside m (s .mates) v (E .inside) ∙ E .exposed) (E .neighbour)
+moved : (n k : ℕ) → n + 1 + k ≡ n + suc k
+moved n k = omega arith
 
-    pub enlarge-outcome : (t : Matching) {Going : Type 0} (v : ℕ) → Exposed R (s .mates) (s .labels) x v → t ≡ enlargedArrays s rows x v → Outcome R r t rows Going
-    enlarge-outcome t v E e = record {
-      square = at .standing .square;
-      enlarged = λ d. rw e (enlarged-by x v (at .scanning .partly .x-even) E);
-      going = λ d. impossible (cc);
-    }
+step-inside : (n k m : ℕ) → n + suc k ≤ m → (n < m) × (n + 1 + k ≤ m)
+step-inside n k m l = (omega arith, omega arith)
 
-    pub ahead-outcome : (t : Matching) → s .done ≡ false → Ahead R s rows t → Outcome R r t rows (ScanAt R r t rows h x n)
-    ahead-outcome t f (stays e) = record {
-      square = at .standing .square;
-      enlarged = λ d. impossible (cc);
-      going = λ d. rw e at;
-    }
-    ahead-outcome t f (enlarges edge E e) = record {
-      square = at .standing .square;
-      enlarged = λ d. rw e (enlarged-by (edge .from) (edge .to) (even-label (at .standing .state .label (edge .from)) (at .standing .stands .queued (edge .from) ∙ E .queued)) (E .exposed));
-      going = λ d. impossible (cc);
-    }
+step-first : (n k : ℕ) → (n ≤ n) × (n < n + suc k)
+step-first n k = (omega arith, omega arith)
 
-    -- what the look-ahead asks
-    pub ahead-asks : (k : ℕ) → k ≡ length R
-        → (k ≡ length R) × (k ≤ 512) × (s .clock ≤ 512) × (length rows ≡ 512) × ((i : ℕ) → i < s .clock → getD (s .queue) i 0 < k)
-    ahead-asks k e =
-        let T = at .standing in
-        let few : k ≤ 512 = omega (arith, T .sized .few) in
-        let clock : s .clock ≤ 512 = omega (arith, T .sized .few, clock-most R s rows (T .state) (T .stands)) in
-        (e, few, clock, T .square .many, λ i l. omega (arith, queue-inside i l))
+step-later : (n k z : ℕ) → n + 1 ≤ z → z < n + 1 + k → (n ≤ z) × (z < n + suc k)
+step-later n k z a b = (omega arith, omega arith)
 
-    -- the tree grows by n and its mate c
-    module _ (l : n < length R) (f : getD (s .labels) n 0 ≡ 0) (c : ℕ) (ec : c ≡ getD (s .mates) n 0) (d : c ≡ n → ⊥) (a : adjacent R x n ≡ true) where
-      n-free : at .standing .state .label n ≡ Free
-      unfolding labelOf
-      n-free = label-number R s rows (at .standing .state) (at .standing .stands) n 0 l f
+-- nothing to do at the next k vertices
+pub scan-passes-to : (R : List Request) → Symmetric (adjacent R) → (r : ℕ) (s : Arrays) (rows : List (List ℕ)) (h x k n : ℕ) → ScanAt R r s rows h x n
+    → n + k ≤ length R → ((z : ℕ) → n ≤ z → z < n + k → relevantIn R (s .labels) (s .bases) x z ≡ false) → ScanAt R r s rows h x (n + k)
+scan-passes-to R symmetric r s rows h x Prim.Native.Nat.zero n here l e = subst (λ (w : ℕ). ScanAt R r s rows h x w) (sym (add-zero n)) here
+scan-passes-to R symmetric r s rows h x (suc k) n here l e =
+    let i = step-inside n k (length R) l in
+    let f = step-first n k in
+    let next = scan-passes R symmetric r s rows h x n here (i .0) (e n (f .0) (f .1)) in
+    subst (λ (w : ℕ). ScanAt R r s rows h x w) (moved n k)
+    (scan-passes-to R symmetric r s rows h x k (n + 1) next (i .1) (λ z a b. let j = step-later n k z a b in e z (j .0) (j .1)))
 
-      n-covered : eqb (entry m (s .mates) n) n ≡ false
-      n-covered = ne-eqb (entry m (s .mates) n) n (λ e. d (ec ∙ (sym (entry-inside m (s .mates) n l) ∙ e)))
+pub scan-passes-first : (R : List Request) → Symmetric (adjacent R) → (r : ℕ) (s : Arrays) (rows : List (List ℕ)) (h x n : ℕ) → ScanAt R r s rows h x n
+    → (m next : ℕ) → m ≡ length R → First (relevantIn R (s .labels) (s .bases) x) n m next → ScanAt R r s rows h x next
+scan-passes-first R symmetric r s rows h x n here m next number F =
+    subst (λ (w : ℕ). ScanAt R r s rows h x w) (together n next (F .least)) (scan-passes-to R symmetric r s rows h x (next - n) n here
+    (rw (together n next (F .least)) (within next m (length R) (F .most) number)) (λ z a b. F .passed z a (rw (together n next (F .least)) at b)))
+  where
+    together : (n next : ℕ) → n ≤ next → n + (next - n) ≡ next
+    together n next l = omega arith
 
-      pub scan-grow-room : s .clock < 512
-      scan-grow-room = grow-room R symmetric r s rows h x n at l n-free n-covered a
+    within : (next m k : ℕ) → next ≤ m → m ≡ k → next ≤ k
+    within next m k a b = omega arith
 
-      pub scan-grows : (t : Matching) (rows' : List (List ℕ)) → t ≡ grownArrays s x n c → rows' ≡ set rows c (grownRow rows x n c) → ScanAt R r t rows' h x (n + 1)
-      scan-grows t rows' et er = rw (et, er, ec) (grow-stands R symmetric r s rows h x n at l n-free n-covered a)
+-- an even vertex has the label 1
+even-number : (R : List Request) (r : ℕ) (s : Arrays) (rows : List (List ℕ)) (T : Standing R r s rows) (x : ℕ) → T .state .label x ≡ Even → getD (s .labels) x 0 ≡ 1
+even-number R r s rows T x e =
+    let l = even-inside R s rows (T .state) (T .stands) x e in
+    eqb-true (getD (s .labels) x 0) 1 (sym (is-even-number (getD (s .labels) x 0)) ∙ ap even? (sym (T .stands .label-is x ∙ labelAt-inside (length R) (s .labels) x l) ∙ e))
+
+pub scan-number : (R : List Request) (r : ℕ) (s : Arrays) (rows : List (List ℕ)) (h x n : ℕ) → ScanAt R r s rows h x n → getD (s .labels) x 0 ≡ 1
+scan-number R r s rows h x n here = even-number R r s rows (here .standing) x (here .scanning .partly .x-even)
+
+-- a queued vertex is one of the requests, and has the label 1
+module _ (R : List Request) (symmetric : Symmetric (adjacent R)) (r : ℕ) (s : Arrays) (rows : List (List ℕ)) (h : ℕ) (S : SearchAt R r s rows h) (i : ℕ) (l : i < s .clock) where
+  pub queued-inside : getD (s .queue) i 0 < length R
+  queued-inside = even-inside R s rows (S .standing .state) (S .standing .stands) (getD (s .queue) i 0) (queued-even R symmetric r s rows h S i l)
+
+  pub queued-number : getD (s .labels) (getD (s .queue) i 0) 0 ≡ 1
+  queued-number = even-number R r s rows (S .standing) (getD (s .queue) i 0) (queued-even R symmetric r s rows h S i l)
+
+-- every even vertex is queued
+pub even-queued : (R : List Request) (r : ℕ) (s : Arrays) (rows : List (List ℕ)) (T : Standing R r s rows) (z : ℕ) → z < length R → getD (s .labels) z 0 ≡ 1
+    → among (s .queue) (s .clock) z ≡ true
+unfolding labelOf
+even-queued R r s rows T z l e = sym (T .stands .queued z) ∙ ap even? (label-number R s rows (T .state) (T .stands) z 1 l e)

@@ -18,14 +18,15 @@ use Rattle.blossom.proofs.State.{State}
 use Rattle.blossom.proofs.Start.{IsStart}
 use Rattle.blossom.proofs.Search.{between-skip, search-begin}
 use Rattle.blossom.proofs.Freeze.{frozen-labels, freezes}
-use Rattle.matching.specs.declared.matchings.Matching.{Matching}
+use Rattle.matching.specs.Arrays.{Arrays, arrays}
 use Rattle.matching.specs.Adjacency.{adjacent}
 use Rattle.matching.specs.Labelling.{unlabelled, frozen, Relabelled}
 use Rattle.matching.specs.Model.{entry, rowAt, labelOf, labelAt, settledOf, settledAt, among}
 use Rattle.matching.specs.Search.{Square, Settled, Standing, SearchAt}
 use Rattle.matching.specs.Progress.{begunArrays, withLabels}
 use Rattle.matching.proofs.ModelLaws.{entry-inside, entry-set, labelAt-set, settledAt-set, among-add}
-use Rattle.matching.proofs.GrowLaws.{square-set, row-set}
+use Rattle.matching.proofs.RowLaws.{square-set}
+use Rattle.matching.proofs.GrowLaws.{row-set}
 
 -- the numbers of the labels when a search begins
 begun-label : (n : ℕ) → labelOf (unlabelled n) ≡ cond (not (free? (settledOf n))) Frozen Free
@@ -52,7 +53,7 @@ ended-label n = elim (is (eqb n 1)) [
   ]
 ]
 
-module _ (R : List Request) (s : Matching) (r : ℕ) (S : Settled R s r) where
+module _ (R : List Request) (s : Arrays) (r : ℕ) (S : Settled R s r) where
   abbrev m : ℕ
   m = length R
 
@@ -76,9 +77,9 @@ module _ (R : List Request) (s : Matching) (r : ℕ) (S : Settled R s r) where
         ]));
   }
 
-  module _ (rows : List (List ℕ)) (Q : Square rows) (l : r < length R) (er : getD (s .mates) r 0 ≡ r) (lr : getD (s .labels) r 0 < 3)
+  module _ (rows : List (List ℕ)) (Q : Square (length R) rows) (l : r < length R) (er : getD (s .mates) r 0 ≡ r) (lr : getD (s .labels) r 0 < 3)
       (labels : List ℕ) (L : Relabelled (length R) (s .labels) labels unlabelled) where
-    abbrev t : Matching
+    abbrev t : Arrays
     t = begunArrays s r labels
 
     abbrev rows' : List (List ℕ)
@@ -129,7 +130,7 @@ module _ (R : List Request) (s : Matching) (r : ℕ) (S : Settled R s r) where
     starts = record {
       labels = start-labels;
       root-base = cc (entry-set m (s .bases) r r r l (omega (arith, S .sized .bases, S .sized .few)), eqb-refl r);
-      root-row = λ z. cc (row-set m rows r (s .mates) Q (omega (arith, S .sized .few)) r z, eqb-refl r);
+      root-row = λ z. cc (row-set m rows r (s .mates) (omega (arith, Q .many, l)) r z, eqb-refl r);
       root-order = omega arith;
     }
 
@@ -151,7 +152,7 @@ module _ (R : List Request) (s : Matching) (r : ℕ) (S : Settled R s r) where
             | different e ↦ omega (arith, getD-set-other (s .bases) r z r 0 (eqb-false z r (e .left)), S .sized .bases-inside z h)
           ];
         };
-        square = square-set rows r (s .mates) Q (omega (arith, S .sized .few)) (S .sized .mates);
+        square = square-set m rows r (s .mates) Q l (S .sized .mates);
         frozen-label = S .label;
         frozen-base = S .base;
         frozen-label-is = λ z. let e = settledAt-set m labels r 1 z l labels-size in elim (test z r) [
@@ -185,7 +186,7 @@ module _ (R : List Request) (s : Matching) (r : ℕ) (S : Settled R s r) where
           ]);
     }
 
-module _ (R : List Request) (symmetric : Symmetric (adjacent R)) (r : ℕ) (s : Matching) (rows : List (List ℕ)) (h : ℕ) (at : SearchAt R r s rows h)
+module _ (R : List Request) (symmetric : Symmetric (adjacent R)) (r : ℕ) (s : Arrays) (rows : List (List ℕ)) (h : ℕ) (at : SearchAt R r s rows h)
     (over : s .clock ≤ h) (labels : List ℕ) (L : Relabelled (length R) (s .labels) labels frozen) where
   abbrev T : Standing R r s rows
   T = at .standing
@@ -220,3 +221,23 @@ module _ (R : List Request) (symmetric : Symmetric (adjacent R)) (r : ℕ) (s : 
     between = rw add-one (freezes (adjacent R) symmetric (entry (length R) (s .mates)) (T .frozen-label) (T .frozen-base) r (T .between) (T .state) (at .scanned)
         (at .searching) all-scanned);
   }
+
+-- between searches the parents and the queue say nothing
+pub rested : (R : List Request) (s : Arrays) (parents queue : List ℕ) (clock n : ℕ) → length parents ≡ 512 → length queue ≡ 512 → Settled R s n
+    → Settled R (arrays (s .mates) (s .labels) (s .bases) parents queue clock) n
+rested R s parents queue clock n p q S = record {
+  sized = record {
+    few = S .sized .few;
+    mates = S .sized .mates;
+    labels = S .sized .labels;
+    bases = S .sized .bases;
+    parents = p;
+    queue = q;
+    bases-inside = S .sized .bases-inside;
+  };
+  label = S .label;
+  base = S .base;
+  label-is = S .label-is;
+  base-is = S .base-is;
+  between = S .between;
+}

@@ -6,7 +6,7 @@ use native.Mathlib.Omega.{arith}
 use lib.ListN.{length}
 use Rattle.ring.specs.Requests.{requestsOf}
 use Rattle.ring.specs.Matchings.{IsMaximum}
-use Rattle.matching.specs.declared.matchings.Matching.{Matching}
+use Rattle.matching.specs.Arrays.{Arrays}
 use Rattle.matching.specs.Maximum.{pairsOf}
 use Rattle.matching.specs.Model.{entry}
 use Rattle.matching.specs.Search.{Settled}
@@ -15,7 +15,7 @@ use Rattle.matching.proofs.ModelLaws.{entry-inside}
 use Rattle.matching.proofs.PairLaws.{maximum-pairs}
 
 -- once every exposed request is frozen, the pairs are a maximum matching
-pub settled-maximum : (ends : List ℕ) (s : Matching) → Settled (requestsOf ends) s (length (requestsOf ends)) → IsMaximum (requestsOf ends) (pairsOf (length (requestsOf ends)) (s .mates))
+pub settled-maximum : (ends : List ℕ) (s : Arrays) → Settled (requestsOf ends) s (length (requestsOf ends)) → IsMaximum (requestsOf ends) (pairsOf (length (requestsOf ends)) (s .mates))
 settled-maximum ends s S =
     let R = requestsOf ends in
     let m = length R in

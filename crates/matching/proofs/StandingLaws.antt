@@ -12,7 +12,7 @@ use Rattle.ring.specs.declared.requests.Request.{Request}
 use Rattle.blossom.proofs.Labels.{Label, Free, Even, Odd, even?, frozen?, is-free, is-even, is-odd, is-frozen, label-case}
 use Rattle.blossom.proofs.State.{State}
 use Rattle.blossom.proofs.Scanning.{Searching}
-use Rattle.matching.specs.declared.matchings.Matching.{Matching}
+use Rattle.matching.specs.Arrays.{Arrays}
 use Rattle.matching.specs.Model.{entry, labelOf}
 use Rattle.matching.specs.Search.{Stands, Standing}
 use Rattle.matching.proofs.AdjacencyLaws.{mates-inside}
@@ -27,12 +27,12 @@ unfolding entry
 entry-outside m l z e = cc
 
 -- a mate is a request
-pub mate-inside : (R : List Request) (r : ℕ) (s : Matching) (rows : List (List ℕ)) → Standing R r s rows
+pub mate-inside : (R : List Request) (r : ℕ) (s : Arrays) (rows : List (List ℕ)) → Standing R r s rows
     → (z : ℕ) → z < length R → getD (s .mates) z 0 < length R
 mate-inside R r s rows T z h =
     rw (entry-inside (length R) (s .mates) z h) at (mates-inside R (entry (length R) (s .mates)) (T .between .mates) z h)
 
-module _ (R : List Request) (s : Matching) (rows : List (List ℕ)) (state : State) (S : Stands R s rows state) where
+module _ (R : List Request) (s : Arrays) (rows : List (List ℕ)) (state : State) (S : Stands R s rows state) where
   pub even-inside : (z : ℕ) → state .label z ≡ Even → z < length R
   even-inside z e = not-free-inside (length R) (s .labels) z (cc (S .label-is z))
 

@@ -14,7 +14,7 @@ use Rattle.ring.proofs.Cases.{same, different, eqb-refl, test, less, not-less, 
 use Rattle.blossom.proofs.Labels.{Free}
 use Rattle.blossom.proofs.Rows.{Symmetric, Mates, paired, paired-is-row}
 use Rattle.blossom.proofs.Search.{between-start}
-use Rattle.matching.specs.declared.matchings.Matching.{Matching}
+use Rattle.matching.specs.Arrays.{Arrays}
 use Rattle.matching.specs.Adjacency.{adjacent}
 use Rattle.matching.specs.Model.{entry, settledOf, settledAt}
 use Rattle.matching.specs.Search.{Settled}
@@ -103,7 +103,7 @@ zeros-free m z few = elim (compare z m) [
   | not-less h e ↦ cc
 ]
 
-pub start-settled : (R : List Request) (s : Matching) → Matched R (s .mates) → Identity (s .bases) → s .labels ≡ replicate 512 0
+pub start-settled : (R : List Request) (s : Arrays) → Matched R (s .mates) → Identity (s .bases) → s .labels ≡ replicate 512 0
     → length (s .parents) ≡ 512 → length (s .queue) ≡ 512 → Settled R s 0
 start-settled R s w own free parents queue = record {
   sized = record {

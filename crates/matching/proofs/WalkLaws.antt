@@ -14,7 +14,7 @@ use Rattle.blossom.proofs.Labels.{Even, Odd, odd?}
 use Rattle.blossom.proofs.Rows.{Symmetric}
 use Rattle.blossom.proofs.State.{State}
 use Rattle.blossom.proofs.Cycle.{cycle, cycle-odd, Walk, walk-start, walk-step, walk-less}
-use Rattle.matching.specs.declared.matchings.Matching.{Matching}
+use Rattle.matching.specs.Arrays.{Arrays}
 use Rattle.matching.specs.Adjacency.{adjacent}
 use Rattle.matching.specs.Model.{entry, labelOf}
 use Rattle.matching.specs.Rows.{sideOf, Readable}
@@ -26,14 +26,14 @@ use Rattle.matching.proofs.CycleLaws.{is-even-number, is-odd-number, si
 use Rattle.matching.proofs.BlossomLaws.{on}
 
 -- b is a base on the walk, and its order is below `left`
-pub record Climb (R : List Request) (r : ℕ) (s : Matching) (rows : List (List ℕ)) (h x y b left : ℕ) : Type 0 where
+pub record Climb (R : List Request) (r : ℕ) (s : Arrays) (rows : List (List ℕ)) (h x y b left : ℕ) : Type 0 where
   pub at : ScanAt R r s rows h x y
   pub even : at .standing .state .label y ≡ Even
   pub neighbour : adjacent R x y ≡ true
   pub walk : Walk (entry (length R) (s .mates)) (at .standing .state) (cycle (entry (length R) (s .mates)) (at .standing .state) x y) x b
   pub less : at .standing .state .order b < left
 
-module _ (R : List Request) (symmetric : Symmetric (adjacent R)) (r : ℕ) (s : Matching) (rows : List (List ℕ)) (h x y : ℕ) where
+module _ (R : List Request) (symmetric : Symmetric (adjacent R)) (r : ℕ) (s : Arrays) (rows : List (List ℕ)) (h x y : ℕ) where
   abbrev m : ℕ
   m = length R
 

@@ -3,9 +3,11 @@
 pub mod Maximum
 pub mod Adjacency
 pub mod Model
+pub mod Arrays
 pub mod Search
 pub mod Labelling
 pub mod Rows
 pub mod Steps
+pub mod Bases
 pub mod Progress
 pub mod Start

@@ -5,6 +5,7 @@ use mathlib.Core.Bool.{Bool, true, false, cond}
 use mathlib.Core.List.{List, []}
 use lib.Dec.{eqb}
 use lib.ListN.{length, getD}
+use Rattle.sets.specs.Sets.{has}
 use Rattle.blossom.proofs.State.{below-test}
 use Rattle.matching.specs.Model.{labelOf}
 use Rattle.matching.specs.Search.{Square}
@@ -51,7 +52,7 @@ pub record Absorbed (m : ℕ) (rows after : List (List ℕ)) (labels mates sides
 
 -- what `below` reads: the rows and the mates of vertices below m
 pub record Located (m : ℕ) (rows : List (List ℕ)) (mates : List ℕ) (v z : ℕ) : Type 0 where
-  pub square : Square rows
+  pub square : Square m rows
   pub few : m ≤ 512
   pub inside : (k : ℕ) → k < m → getD mates k 0 < m
   pub v-inside : v < m
@@ -61,6 +62,18 @@ pub record Located (m : ℕ) (rows : List (List ℕ)) (mates : List ℕ) (v z : 
 unfoldable pub mixedEntry : List (List ℕ) → List ℕ → List ℕ → ℕ → ℕ → ℕ → ℕ → ℕ
 mixedEntry rows labels mates p q v z = cond (belowIn rows labels mates v z) (cell rows p z) (cell rows q z)
 
+-- a vertex that does not join the blossom has its entry of row q in the row that v gets
+abbrev pub Unmixed : ℕ → List (List ℕ) → List ℕ → List ℕ → List ℕ → ℕ → ℕ → ℕ → Type 0
+Unmixed m rows labels mates joined p q v = (z : ℕ) → z < m → has joined z ≡ false → mixedEntry rows labels mates p q v z ≡ cell rows q z
+
+-- the cycle's vertices and those that join the blossom, as sets: no other vertex gets a row, and no other entry of a row changes
+pub record Sparse (m : ℕ) (rows : List (List ℕ)) (labels mates sides cycle joined : List ℕ) (x y : ℕ) : Type 0 where
+  pub cycle-words : length cycle ≡ 8
+  pub joined-words : length joined ≡ 8
+  pub covered : (v : ℕ) → v < m → has cycle v ≡ false → getD sides v 0 ≡ 0
+  pub first : (v : ℕ) → v < m → getD sides v 0 ≡ 1 → Unmixed m rows labels mates joined x y v
+  pub second : (v : ℕ) → v < m → getD sides v 0 ≡ 2 → Unmixed m rows labels mates joined y x v
+
 -- the row that v gets, above p and not above q
 pub record AbsorbedRow (m : ℕ) (rows : List (List ℕ)) (labels mates : List ℕ) (p q v : ℕ) (row : List ℕ) : Type 0 where
   pub wide : length row ≡ 512
@@ -68,7 +81,7 @@ pub record AbsorbedRow (m : ℕ) (rows : List (List ℕ)) (labels mates : List �
 
 -- the rows after v, on the given side, has got its own
 pub record AbsorbedVertex (m : ℕ) (rows after : List (List ℕ)) (labels mates : List ℕ) (side x y v : ℕ) : Type 0 where
-  pub square : Square after
+  pub square : Square m after
   pub others : (w : ℕ) → (w ≡ v → ⊥) → getD after w [] ≡ getD rows w []
   pub unmoved : side ≡ 0 → getD after v [] ≡ getD rows v []
   pub first : side ≡ 1 → (z : ℕ) → z < m → cell after v z ≡ absorbedEntry rows labels mates x y v z

@@ -6,10 +6,7 @@ use mathlib.Core.List.{List, []}
 use lib.Dec.{eqb, ltb}
 use lib.ListN.{length, getD, set}
 use Rattle.ring.proofs.Counting.{count}
-use Rattle.matching.specs.declared.matchings.Matching.{Matching}
-use Rattle.ring.specs.declared.requests.Request.{Request}
-use Rattle.matching.specs.declared.lookahead.Edge.{Edge}
-use Rattle.matching.specs.Adjacency.{adjacent}
+use Rattle.matching.specs.Arrays.{Arrays}
 use Rattle.matching.specs.Model.{among}
 
 -- row x with x and y paired and c exposed
@@ -17,7 +14,7 @@ abbrev pub grownRow : List (List ℕ) → ℕ → ℕ → ℕ → List ℕ
 grownRow rows x y c = set (set (set (getD rows x []) x y) y x) c c
 
 -- the tree has grown by y, below x, and its mate c
-abbrev pub grownArrays : Matching → ℕ → ℕ → ℕ → Matching
+abbrev pub grownArrays : Arrays → ℕ → ℕ → ℕ → Arrays
 grownArrays s x y c = record {
   mates = s .mates;
   labels = set (set (s .labels) y 2) c 1;
@@ -25,12 +22,10 @@ grownArrays s x y c = record {
   parents = set (s .parents) y x;
   queue = set (s .queue) (s .clock) c;
   clock = s .clock + 1;
-  size = s .size;
-  done = s .done;
 }
 
 -- the mates are row x with x and y paired
-abbrev pub enlargedArrays : Matching → List (List ℕ) → ℕ → ℕ → Matching
+abbrev pub enlargedArrays : Arrays → List (List ℕ) → ℕ → ℕ → Arrays
 enlargedArrays s rows x y = record {
   mates = set (set (getD rows x []) x y) y x;
   labels = s .labels;
@@ -38,8 +33,6 @@ enlargedArrays s rows x y = record {
   parents = s .parents;
   queue = s .queue;
   clock = s .clock;
-  size = s .size;
-  done = true;
 }
 
 -- v is a vertex of the cycle, as the array of sides has it
@@ -55,54 +48,31 @@ joinsBlossom labels mates bases sides z =
 unfoldable pub newBase : List ℕ → List ℕ → List ℕ → List ℕ → ℕ → ℕ → ℕ
 newBase labels mates bases sides b z = cond (joinsBlossom labels mates bases sides z) b (getD bases z 0)
 
--- with other bases
-abbrev pub withBases : Matching → List ℕ → Matching
-withBases s bases = record {
-  mates = s .mates;
-  labels = s .labels;
-  bases = bases;
-  parents = s .parents;
-  queue = s .queue;
-  clock = s .clock;
-  size = s .size;
-  done = s .done;
-}
+-- the vertices of the cycle below n have become even, in their order, and come to the end of the queue
+pub record Promoted (m n : ℕ) (sides labels queue : List ℕ) (clock : ℕ) (labels-after queue-after : List ℕ) (clock-after : ℕ) : Type 0 where
+  pub labels-length : length labels-after ≡ length labels
+  pub queue-length : length queue-after ≡ length queue
+  pub label : (z : ℕ) → getD labels-after z 0 ≡ cond (onCycle n sides z) 1 (getD labels z 0)
+  pub counted : clock-after ≡ clock + count (onCycle m sides) n
+  pub before : (i : ℕ) → i < clock → getD queue-after i 0 ≡ getD queue i 0
+  pub queued : (z : ℕ) → among queue-after clock-after z ≡ (onCycle n sides z || among queue clock z)
 
--- z becomes even and the last of the queue
-abbrev pub promotedArrays : Matching → ℕ → Matching
-promotedArrays s z = record {
-  mates = s .mates;
-  labels = set (s .labels) z 1;
-  bases = s .bases;
-  parents = s .parents;
-  queue = set (s .queue) (s .clock) z;
-  clock = s .clock + 1;
-  size = s .size;
-  done = s .done;
-}
+-- what taking an edge from x to y asks
+pub record Attachable (s : Arrays) (rows : List (List ℕ)) (x y : ℕ) : Type 0 where
+  pub from : x < 512
+  pub to : y < 512
+  pub mate : getD (s .mates) y 0 < 512
+  pub room : (getD (s .mates) y 0 ≡ y → ⊥) → s .clock < 512
+  pub from-row : x < length rows
+  pub mate-row : getD (s .mates) y 0 < length rows
+  pub mates : length (s .mates) ≡ 512
+  pub labels : length (s .labels) ≡ 512
+  pub bases : length (s .bases) ≡ 512
+  pub parents : length (s .parents) ≡ 512
+  pub queue : length (s .queue) ≡ 512
 
--- the vertices of the cycle below n have become even, in their order
-pub record Promoted (m n : ℕ) (sides : List ℕ) (s after : Matching) : Type 0 where
-  pub mates : after .mates ≡ s .mates
-  pub bases : after .bases ≡ s .bases
-  pub parents : after .parents ≡ s .parents
-  pub size : after .size ≡ s .size
-  pub done : after .done ≡ s .done
-  pub labels-length : length (after .labels) ≡ length (s .labels)
-  pub queue-length : length (after .queue) ≡ length (s .queue)
-  pub label : (z : ℕ) → getD (after .labels) z 0 ≡ cond (onCycle n sides z) 1 (getD (s .labels) z 0)
-  pub clock : after .clock ≡ s .clock + count (onCycle m sides) n
-  pub before : (i : ℕ) → i < s .clock → getD (after .queue) i 0 ≡ getD (s .queue) i 0
-  pub queued : (z : ℕ) → among (after .queue) (after .clock) z ≡ (onCycle n sides z || among (s .queue) (s .clock) z)
-
--- y is a free exposed neighbour of x
-pub record Exposed (R : List Request) (mates labels : List ℕ) (x y : ℕ) : Type 0 where
-  pub inside : y < length R
-  pub free : getD labels y 0 ≡ 0
-  pub exposed : getD mates y 0 ≡ y
-  pub neighbour : adjacent R x y ≡ true
-
--- the edge leads from one of the first vertices of the queue to a free exposed neighbour
-pub record Enlarging (R : List Request) (mates labels queue : List ℕ) (clock : ℕ) (edge : Edge) : Type 0 where
-  pub queued : among queue clock (edge .from) ≡ true
-  pub exposed : Exposed R mates labels (edge .from) (edge .to)
+-- what an edge from the even x to the free y does: it enlarges the matching, or the tree grows by y and its mate
+pub data Attached (s : Arrays) (rows : List (List ℕ)) (x y : ℕ) (t : Arrays) (after : List (List ℕ)) (done : Bool) : Type 0 where
+  enlarges : getD (s .mates) y 0 ≡ y → done ≡ true → t ≡ enlargedArrays s rows x y → after ≡ rows → Attached s rows x y t after done
+  grows : (c : ℕ) → c ≡ getD (s .mates) y 0 → (c ≡ y → ⊥) → done ≡ false → t ≡ grownArrays s x y c → after ≡ set rows c (grownRow rows x y c)
+      → Attached s rows x y t after done

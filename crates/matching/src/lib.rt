@@ -1,10 +1,11 @@
 // A maximum matching among compatible requests, by a search for blossoms that keeps for each even vertex a whole matching, its row.
 pub mod blossoms;
 pub mod counts;
+pub mod edges;
 pub mod labels;
-pub mod lookahead;
 pub mod matchings;
 pub mod maxima;
+pub mod roots;
 pub mod rows;
 pub mod searches;
 pub mod starts;

@@ -1,10 +1,16 @@
 // The steps of a search that grow the tree or enlarge the matching.
-use super::matchings::Matching;
 ghost use mathlib.Core.Path.{_≡_};
 ghost use mathlib.Core.List.{List, []};
-ghost use Prim.Native.Nat.{ℕ, _<_, _≤_};
+ghost use Prim.Native.Nat.{ℕ, _+_, _<_, _≤_};
 ghost use lib.ListN.{length, getD, set};
-ghost use Rattle.matching.specs.Steps.{grownRow, grownArrays, enlargedArrays};
+ghost use Rattle.matching.specs.Arrays.{arrays};
+ghost use Rattle.matching.specs.Steps.{grownRow, Attachable, Attached};
+
+// What a part of a search leaves: how many vertices are queued, and whether it has enlarged the matching.
+pub struct Progress {
+    pub clock: usize,
+    pub done: bool,
+}
 
 pub fn wide(x: u16) -> usize
     ensures { λ r. ⌜ r ≡ x ⌝ }
@@ -13,8 +19,8 @@ pub fn wide(x: u16) -> usize
 }
 
 // Row c becomes row x with x and y paired and c exposed.
-pub fn grow_row(rows: &mut [[u16; 512]], x: usize, y: usize, c: usize)
-    requires { ⌜ (x < 512) × (y < 512) × (c < 512) × (length (now rows) ≡ 512) ⌝ }
+fn grow_row(rows: &mut [[u16; 512]], x: usize, y: usize, c: usize)
+    requires { ⌜ (x < 512) × (y < 512) × (c < 512) × (x < length (now rows)) × (c < length (now rows)) ⌝ }
     ensures { λ _. ⌜ now (rows .exit) ≡ set (now (rows .entry)) c (grownRow (now (rows .entry)) x y c) ⌝ }
 {
     let mut r = rows[x];
@@ -25,31 +31,64 @@ pub fn grow_row(rows: &mut [[u16; 512]], x: usize, y: usize, c: usize)
 }
 
 // The tree grows by y, below x, and its mate c.
-pub fn grow(s: Matching, x: usize, y: usize, c: usize) -> Matching
-    requires { ⌜ (x < 512) × (y < 512) × (c < 512) × (s .clock < 512) ⌝ }
-    ensures { λ r. ⌜ r ≡ grownArrays s x y c ⌝ }
+fn grow(
+    labels: &mut [u8; 512],
+    bases: &mut [u16; 512],
+    parents: &mut [u16; 512],
+    queue: &mut [u16; 512],
+    clock: usize,
+    x: usize,
+    y: usize,
+    c: usize,
+)
+    requires { ⌜ (x < 512) × (y < 512) × (c < 512) × (clock < 512) × (length (now labels) ≡ 512) × (length (now bases) ≡ 512) × (length (now parents) ≡ 512) × (length (now queue) ≡ 512) ⌝ }
+    ensures { λ _. ⌜ (now (labels .exit) ≡ set (set (now (labels .entry)) y 2) c 1) × (now (bases .exit) ≡ set (now (bases .entry)) c c) × (now (parents .exit) ≡ set (now (parents .entry)) y x) × (now (queue .exit) ≡ set (now (queue .entry)) clock c) ⌝ }
 {
-    let mut t = s;
-    t.labels[y] = 2;
-    t.labels[c] = 1;
-    t.bases[c] = c as u16;
-    t.parents[y] = x as u16;
-    let k = t.clock;
-    t.queue[k] = c as u16;
-    t.clock = k + 1;
-    t
+    labels[y] = 2;
+    labels[c] = 1;
+    bases[c] = c as u16;
+    parents[y] = x as u16;
+    queue[clock] = c as u16;
 }
 
 // The mates become row x with x and y paired.
-pub fn enlarge(rows: &[[u16; 512]], s: Matching, x: usize, y: usize) -> Matching
-    requires { ⌜ (x < 512) × (y < 512) × (length (now rows) ≡ 512) ⌝ }
-    ensures { λ r. ⌜ r ≡ enlargedArrays s (now (rows .entry)) x y ⌝ }
+fn enlarge(rows: &[[u16; 512]], mates: &mut [u16; 512], x: usize, y: usize)
+    requires { ⌜ (x < 512) × (y < 512) × (x < length (now rows)) ⌝ }
+    ensures { λ _. ⌜ now (mates .exit) ≡ set (set (getD (now (rows .entry)) x []) x y) y x ⌝ }
 {
     let mut r = rows[x];
     r[x] = y as u16;
     r[y] = x as u16;
-    let mut t = s;
-    t.mates = r;
-    t.done = true;
-    t
+    *mates = r;
+}
+
+// The edge from the even x to the free y enlarges the matching, or the tree grows by y and its mate.
+pub fn attach(
+    rows: &mut [[u16; 512]],
+    mates: &mut [u16; 512],
+    labels: &mut [u8; 512],
+    bases: &mut [u16; 512],
+    parents: &mut [u16; 512],
+    queue: &mut [u16; 512],
+    clock: usize,
+    x: usize,
+    y: usize,
+) -> Progress
+    requires { ⌜ Attachable (arrays (now mates) (now labels) (now bases) (now parents) (now queue) clock) (now rows) x y ⌝ }
+    ensures { λ p. ⌜ Attached (arrays (now (mates .entry)) (now (labels .entry)) (now (bases .entry)) (now (parents .entry)) (now (queue .entry)) clock) (now (rows .entry)) x y (arrays (now (mates .exit)) (now (labels .exit)) (now (bases .exit)) (now (parents .exit)) (now (queue .exit)) (p .clock)) (now (rows .exit)) (p .done) ⌝ }
+{
+    let c = wide(mates[y]);
+    if c == y {
+        enlarge(rows, mates, x, y);
+        return Progress {
+            clock: clock,
+            done: true,
+        };
+    }
+    grow_row(rows, x, y, c);
+    grow(labels, bases, parents, queue, clock, x, y, c);
+    Progress {
+        clock: clock + 1,
+        done: false,
+    }
 }

@@ -1,12 +1,13 @@
 -- A list of requests, by the list of their ends.
-use Prim.Native.Nat.{ℕ, zero, suc, _+_, _*_, _/_, _<_}
+use Prim.Native.Nat.{ℕ, zero, suc, _+_, _*_, _/_, _<_, _≤_}
 use mathlib.Core.Path.{_≡_, refl}
 use mathlib.Core.List.{List, [], _∷_}
 use native.Mathlib.Numerals.{add-one}
 use native.Mathlib.Omega.{arith}
 use lib.ListN.{length, getD, drop}
 use lib.Seq.{drop-cons}
-use Rattle.ring.specs.Requests.{requestOf, requestsOf, request}
+use Rattle.ring.specs.declared.requests.Request.{Request}
+use Rattle.ring.specs.Requests.{requestOf, requestsOf, request, ValidRequests}
 
 -- the place of an end of the next request
 next-first : (i : ℕ) → 2 * suc i ≡ suc (suc (2 * i))
@@ -41,3 +42,7 @@ drop-two l i h =
     let first : 2 * i < length l = omega arith in
     let second : suc (2 * i) < length l = omega arith in
     rw (add-one (2 * i), add-one i, next-first, drop-cons l (2 * i) 0, drop-cons l (suc (2 * i)) 0)
+
+-- requests on fewer nodes are requests on 256
+pub valid-on-256 : (n : ℕ) (R : List Request) → n ≤ 256 → ValidRequests n R → ValidRequests 256 R
+valid-on-256 n R h v = record { few = v .few; ordered = v .ordered; nodes = λ i l. omega (arith, v .nodes i l) }

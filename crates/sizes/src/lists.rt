@@ -1,4 +1,5 @@
 // Lists of requests, each made by a rule, and the sizes of their maximum matchings.
+use planner::PlanAnswer;
 ghost use mathlib.Core.Path.{_≡_};
 ghost use Prim.Native.Nat.{_+_, _*_, _<_, _≤_};
 ghost use lib.ListN.{length};
@@ -25,8 +26,12 @@ fn size(ends: &[u16], m: usize) -> usize
     requires { ⌜ (length (now ends) ≡ 1024) × (m ≤ 512) ⌝ }
 {
     let count = 2 * m;
-    let matching = matching::maximum(&ends[..count]);
-    matching.size
+    let mut table = [0u16; 512];
+    let answer = planner::plan(256, 1, &ends[..count], &mut table);
+    match answer {
+        PlanAnswer::Planned(summary) => summary.matched as usize,
+        PlanAnswer::Refused(refusal) => 0,
+    }
 }
 
 // m chords over reach of n nodes. Each begins step nodes behind the one before, modulo p.

@@ -1,12 +1,14 @@
 -- By the side.
 use borrow.Author.Needs.{needs}
 use native.Mathlib.Omega.{arith}
-use Rattle.matching.proofs.RowLaws.{vertex-first, vertex-second}
+use Rattle.matching.proofs.RowLaws.{vertex-first, vertex-second, readable-turned}
 use Rattle.matching.proofs.rows.absorb_vertex.Statement.{statement}
 use Rattle.matching.proofs.rows.absorb_vertex.Tie as tie
 
 absorbed-row-requires : tie.Need-absorbed-row-requires
-absorbed-row-requires c κs = search needs
+absorbed-row-requires c κs =
+    let start = c .before .before in
+    (start .pre .0, start .pre .1, start .pre .2, start .pre .3, start .pre .4 (c .before .if1 .taken))
 
 mul-row : tie.Need-mul-row
 mul-row c = search needs
@@ -21,7 +23,9 @@ returns : tie.Need-returns
 returns c = vertex-first _ _ _ _ _ _ _ _ (c .before .before .before .pre .0) (omega arith) _ (c .before .before .if1 .taken) (c .absorbed-row .ensures)
 
 absorbed-row-requires-2 : tie.Need-absorbed-row-requires-2
-absorbed-row-requires-2 c κs = search needs
+absorbed-row-requires-2 c κs =
+    let start = c .before .before .before in
+    (start .pre .0, readable-turned (start .pre .1), start .pre .2, start .pre .3, start .pre .5 (c .before .if2 .taken))
 
 mul-row-2 : tie.Need-mul-row-2
 mul-row-2 c = search needs

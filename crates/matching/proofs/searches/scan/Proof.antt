@@ -1,123 +1,105 @@
-use Prim.Native.Nat.{_-_, _≤_}
-use mathlib.Core.Path.{_≡_, refl, sym, ap, _∙_}
+use Prim.Native.Nat.{_-_, _<_, _≤_}
+use mathlib.Core.Path.{_≡_, refl, sym, _∙_}
+use mathlib.Core.Bool.{true}
 use native.Mathlib.Omega.{arith}
-use mathlib.Core.Bool.{false}
-use mathlib.Core.Logic.{⊎-elim}
-use borrow.Author.Needs.{needs}
 use lib.ListN.{length}
 use Rattle.ring.specs.Requests.{requestsOf}
 use Rattle.ring.proofs.Cases.{impossible}
+use Rattle.neighbours.specs.Neighbours.{Neighbours}
+use Rattle.matching.specs.Arrays.{arrays}
 use Rattle.matching.specs.Search.{ScanAt}
+use Rattle.matching.specs.Progress.{relevantIn}
 use Rattle.matching.proofs.AdjacencyLaws.{adjacent-symmetric}
 use Rattle.matching.proofs.StandingLaws.{clock-most}
 use Rattle.matching.proofs.WalkLaws.{scan-inside}
-use Rattle.matching.proofs.ScanLaws.{scan-starts, scan-passes, scan-finishes, relevant-neighbour, relevant-label}
+use Rattle.matching.proofs.ScanLaws.{queued-inside, queued-number, scan-starts, scan-passes-first, scan-finishes, scan-number, relevant-neighbour, relevant-label}
 use Rattle.matching.proofs.searches.scan.Statement.{statement}
 use Rattle.matching.proofs.searches.scan.Tie as tie
 
 abbrev Inv-loop : tie.InvT-loop
-Inv-loop ends rows₀ r h m x t₀ y₀ rows t y = ScanAt (requestsOf ends) r t rows h x y × (m ≡ length (requestsOf ends)) × (y ≤ m) × (t .done ≡ false) × (length rows ≡ length rows₀)
+Inv-loop ends sets rows₀ mates₀ labels₀ bases₀ parents₀ queue₀ clock r h m x around k₀ y₀ rows mates labels bases parents queue k y =
+    ScanAt (requestsOf ends) r (arrays mates labels bases parents queue k) rows h x y × (m ≡ length (requestsOf ends)) × (y ≤ m)
+    × (y < m → relevantIn (requestsOf ends) labels bases x y ≡ true) × Neighbours (requestsOf ends) x around × (length rows ≡ length rows₀)
 
 abbrev μ-loop : tie.MeasureT-loop
-μ-loop ends rows₀ r h m x t₀ y₀ rows t y = m - y
+μ-loop ends sets rows₀ mates₀ labels₀ bases₀ parents₀ queue₀ clock r h m x around k₀ y₀ rows mates labels bases parents queue k y = m - y
 
 mul-wide : tie.Need-mul-wide Inv-loop μ-loop
 mul-wide c =
-    let start = c .before in
-    let symmetric = adjacent-symmetric (start .args .ends .now) in
-    let S = start .pre .0 in
-    omega (arith, start .pre .2, S .standing .sized .few, clock-most _ _ _ _ (S .standing .stands))
+    let S = c .before .pre .0 in omega (arith, c .before .pre .2, S .standing .sized .few, clock-most _ _ _ _ (S .standing .stands))
 
 element-copy-out-wide : tie.Need-element-copy-out-wide Inv-loop μ-loop
 element-copy-out-wide c =
-    let start = c .before in
-    let symmetric = adjacent-symmetric (start .args .ends .now) in
-    let S = start .pre .0 in
-    omega (arith, start .pre .2, S .standing .sized .few, clock-most _ _ _ _ (S .standing .stands))
+    let S = c .before .pre .0 in omega (arith, c .before .pre .2, S .standing .sized .few, clock-most _ _ _ _ (S .standing .stands))
 
 wide-requires : tie.Need-wide-requires Inv-loop μ-loop
-wide-requires c κs = search needs
+wide-requires c κs = _
+
+neighbours-requires : tie.Need-neighbours-requires Inv-loop μ-loop
+neighbours-requires c κs =
+    let p = c .before .before .before .pre in
+    (rw (c .wide .ensures) (queued-inside _ (adjacent-symmetric (c .before .before .before .args .ends .now)) _ _ _ _ (p .0) _ (p .2)), p .0 .standing .sized .few, p .3 .valid, p .3 .prefixes)
+
+next-relevant-requires : tie.Need-next-relevant-requires Inv-loop μ-loop
+next-relevant-requires c κs =
+    let p = c .before .before .before .before .before .before .before .pre in
+    let symmetric = adjacent-symmetric (c .before .before .before .before .before .before .before .args .ends .now) in
+    (p .1, rw (c .before .before .before .before .wide .ensures, p .1) (queued-inside _ symmetric _ _ _ _ (p .0) _ (p .2)), omega arith, omega (arith, p .1, p .0 .standing .sized .few), c .before .before .before .neighbours .ensures, rw (c .before .before .before .before .wide .ensures) (queued-number _ symmetric _ _ _ _ (p .0) _ (p .2)))
 
 loop-holds : tie.Need-loop-holds Inv-loop μ-loop
 loop-holds c =
-    let start = c .before .before .before in
-    let symmetric = adjacent-symmetric (start .args .ends .now) in
-    let S = start .pre .0 in
-    (rw (c .wide .ensures) (scan-starts _ symmetric _ _ _ _ S (start .pre .2)), start .pre .1, omega arith, start .pre .3, refl)
-
-relevant-requires : tie.Need-relevant-requires Inv-loop μ-loop
-relevant-requires c κs =
-    let head = c .before .before .before .before in
-    let start = head .before .before .before .before in
-    let symmetric = adjacent-symmetric (start .args .ends .now) in
-    let at = head .loop .inv .0 in
-    (scan-inside _ symmetric _ _ _ _ _ _ at, rw (head .loop .inv .1) at (c .before .before .before .loop-test .taken), at .standing .sized .few)
+    let p = c .before .before .before .before .before .before .before .before .pre in
+    let symmetric = adjacent-symmetric (c .before .before .before .before .before .before .before .before .args .ends .now) in
+    let F = c .next-relevant .ensures in
+    let here = rw (sym (c .before .before .before .before .before .wide .ensures)) at (scan-starts _ symmetric _ _ _ _ (p .0) (p .2)) in
+    (scan-passes-first _ symmetric _ _ _ _ _ _ here _ _ (p .1) F, p .1, F .most, F .found, c .before .before .before .before .neighbours .ensures, refl)
 
 step-requires : tie.Need-step-requires Inv-loop μ-loop
 step-requires c κs =
-    let head = c .before .before .before .before .before .before .before in
-    let start = head .before .before .before .before in
-    let symmetric = adjacent-symmetric (start .args .ends .now) in
-    let at = head .loop .inv .0 in
-    let relevant = sym (c .before .before .relevant .ensures) ∙ c .before .if1 .taken in (
-      record { at = at; number = head .loop .inv .1; inside = c .before .before .before .before .before .before .loop-test .taken; neighbour = relevant-neighbour _ _ _ _ _ relevant },
-      head .loop .inv .3,
-      relevant-label _ _ _ _ _ relevant,
-    )
+    let inv = c .before .before .before .before .before .before .before .loop .inv in
+    let inside = c .before .before .before .before .before .before .loop-test .taken in
+    let relevant = inv .3 inside in
+    (record { at = inv .0; number = inv .1; inside = inside; neighbour = relevant-neighbour _ _ _ _ _ relevant }, relevant-label _ _ _ _ _ relevant)
 
 same-length : tie.Need-same-length Inv-loop μ-loop
-same-length c = c .before .before .step .kept .1 .0 ∙ c .before .before .before .before .before .before .before .before .before .before .loop .inv .4
+same-length c = c .before .before .step .kept .1 .0 ∙ c .before .before .before .before .before .before .before .before .before .before .loop .inv .5
 
 returns : tie.Need-returns Inv-loop μ-loop
 returns c =
     let O = c .before .before .step .ensures in
-    record { square = O .square; enlarged = O .enlarged; going = λ d. impossible (sym (c .if2 .taken) ∙ d) }
+    record { square = O .square; enlarged = O .enlarged; going = λ d. impossible (sym (c .if1 .taken) ∙ d) }
 
-add-y : tie.Need-add-y Inv-loop μ-loop
-add-y c = omega arith
+add-next-relevant : tie.Need-add-next-relevant Inv-loop μ-loop
+add-next-relevant c =
+    let inv = c .before .before .before .before .before .before .before .before .before .before .before .before .before .loop .inv in omega (arith, c .before .before .before .before .before .before .before .before .before .before .before .before .loop-test .taken, inv .1, inv .0 .standing .sized .few)
+
+next-relevant-requires-2 : tie.Need-next-relevant-requires-2 Inv-loop μ-loop
+next-relevant-requires-2 c κs =
+    let inv = c .before .before .before .before .before .before .before .before .before .before .before .before .before .loop .inv in
+    let symmetric = adjacent-symmetric (c .before .before .before .before .before .before .before .before .before .before .before .before .before .before .before .before .before .before .before .before .before .before .args .ends .now) in
+    let here = c .before .before .before .before .before .step .ensures .going (c .before .before .before .if1 .left) in
+    (inv .1, rw (inv .1) (scan-inside _ symmetric _ _ _ _ _ _ here), omega (arith, c .before .before .before .before .before .before .before .before .before .before .before .before .loop-test .taken), omega (arith, inv .1, inv .0 .standing .sized .few), inv .4, scan-number _ _ _ _ _ _ _ here)
 
 loop-less : tie.Need-loop-less Inv-loop μ-loop
-loop-less c = omega arith
+loop-less c = omega (arith, c .next-relevant2 .ensures .least, c .before .before .before .before .before .before .before .before .before .before .before .before .before .loop-test .taken)
 
 loop-again : tie.Need-loop-again Inv-loop μ-loop
 loop-again c =
-    let head = c .before .before .before .before .before .before in
-    let start = head .before .before .before .before in
-    let symmetric = adjacent-symmetric (start .args .ends .now) in
-    let at = head .loop .inv .0 in
-    let number = head .loop .inv .1 in
-    ⊎-elim
-    (λ w. (
-      rw (w .5, w .6) (w .2 .ensures .going (w .4 .left)),
-      number,
-      omega (arith, c .before .before .before .before .before .loop-test .taken),
-      rw (w .6) (w .4 .left),
-      ap length (w .5) ∙ (w .2 .kept .1 .0 ∙ head .loop .inv .4),
-    ))
-    (λ w. (
-      rw (w .1, w .2) (scan-passes _ symmetric _ _ _ _ _ _ at (rw number at (c .before .before .before .before .before .loop-test .taken)) (sym (c .before .relevant .ensures) ∙ w .0 .left)),
-      number,
-      omega (arith, c .before .before .before .before .before .loop-test .taken),
-      rw (w .2) (head .loop .inv .3),
-      ap length (w .1) ∙ head .loop .inv .4,
-    ))
-    (c .if1 .came)
+    let inv = c .before .before .before .before .before .before .before .before .before .before .before .before .before .before .loop .inv in
+    let symmetric = adjacent-symmetric (c .before .before .before .before .before .before .before .before .before .before .before .before .before .before .before .before .before .before .before .before .before .before .before .args .ends .now) in
+    let here = c .before .before .before .before .before .before .step .ensures .going (c .before .before .before .before .if1 .left) in
+    let F = c .next-relevant2 .ensures in
+    (scan-passes-first _ symmetric _ _ _ _ _ _ here _ _ (inv .1) F, inv .1, F .most, F .found, inv .4, c .before .before .before .before .before .before .step .kept .1 .0 ∙ inv .5)
 
 same-length-2 : tie.Need-same-length-2 Inv-loop μ-loop
-same-length-2 c = c .before .loop .inv .4
+same-length-2 c = c .before .loop .inv .5
 
 returns-2 : tie.Need-returns-2 Inv-loop μ-loop
 returns-2 c =
-    let head = c .before in
-    let start = head .before .before .before .before in
-    let symmetric = adjacent-symmetric (start .args .ends .now) in
-    let at = head .loop .inv .0 in
-    let over : head .loop .y ≡ length (requestsOf (start .args .ends .now)) = omega arith in
-    record {
-      square = at .standing .square;
-      enlarged = λ d. impossible (sym d ∙ head .loop .inv .3);
-      going = λ d. scan-finishes _ symmetric _ _ _ _ _ _ at over;
-    }
+    let inv = c .before .loop .inv in
+    let symmetric = adjacent-symmetric (c .before .before .before .before .before .before .before .before .before .before .args .ends .now) in
+    let over : c .before .loop .y ≡ length (requestsOf (c .before .before .before .before .before .before .before .before .before .before .args .ends .now)) = omega (arith, c .loop-test .left, inv .1, inv .2) in
+    record { square = inv .0 .standing .square; enlarged = λ d. impossible (sym d); going = λ d. scan-finishes _ symmetric _ _ _ _ _ _ (inv .0) over }
 
 pub scan-spec : {M : Type 1} → statement M
 scan-spec =
@@ -128,12 +110,14 @@ scan-spec =
     mul-wide
     element-copy-out-wide
     wide-requires
+    neighbours-requires
+    next-relevant-requires
     loop-holds
-    relevant-requires
     step-requires
     same-length
     returns
-    add-y
+    add-next-relevant
+    next-relevant-requires-2
     loop-less
     loop-again
     same-length-2

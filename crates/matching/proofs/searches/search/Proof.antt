@@ -1,96 +1,123 @@
-use Prim.Native.Nat.{_-_}
-use mathlib.Core.Path.{_≡_, refl, ap, _∙_}
+use Prim.Native.Nat.{_+_, _-_, _≤_}
+use mathlib.Core.Path.{_≡_, refl, sym, _∙_}
 use native.Mathlib.Omega.{arith}
-use mathlib.Core.Bool.{false}
 use native.Mathlib.Numerals.{add-one}
 use lib.ListN.{length}
 use Rattle.ring.specs.Requests.{requestsOf}
-use Rattle.matching.specs.declared.matchings.Matching.{Matching}
+use Rattle.matching.specs.Arrays.{arrays}
 use Rattle.matching.specs.Search.{SearchAt}
 use Rattle.matching.proofs.AdjacencyLaws.{adjacent-symmetric}
 use Rattle.matching.proofs.StandingLaws.{clock-most}
-use Rattle.matching.proofs.SearchLaws.{search-begins, search-ends}
+use Rattle.matching.proofs.SearchLaws.{search-begins, search-ends, rested}
 use Rattle.matching.proofs.searches.search.Statement.{statement}
 use Rattle.matching.proofs.searches.search.Tie as tie
 
 abbrev Inv-loop : tie.InvT-loop
-Inv-loop ends rows₀ r m t₀ h₀ rows t h = SearchAt (requestsOf ends) r t rows h × (m ≡ length (requestsOf ends)) × (t .done ≡ false) × (length rows ≡ length rows₀)
+Inv-loop ends sets rows₀ mates₀ labels₀ bases₀ parents₀ queue₀ r m clock₀ g₀ h₀ rows mates labels bases parents queue clock g h =
+    SearchAt (requestsOf ends) r (arrays mates labels bases parents queue clock) rows h × (m ≡ length (requestsOf ends)) × (length rows ≡ length rows₀)
 
 abbrev μ-loop : tie.MeasureT-loop
-μ-loop ends rows₀ r m t₀ h₀ rows t h = m - h
+μ-loop ends sets rows₀ mates₀ labels₀ bases₀ parents₀ queue₀ r m clock₀ g₀ h₀ rows mates labels bases parents queue clock g h = (m - g) + (m - h)
 
 root-row-requires : tie.Need-root-row-requires Inv-loop μ-loop
-root-row-requires c κs =
-    let start = c .before .before .before .before in
-    (omega (arith, start .pre .2, start .pre .3, start .pre .0 .sized .few), start .pre .1 .many)
+root-row-requires c κs = let p = c .before .before .before .pre in omega (arith, p .1 .many, p .3)
 
-begin-requires : tie.Need-begin-requires Inv-loop μ-loop
-begin-requires c κs =
-    let start = c .before .before .before .before .before .before in
-    (start .pre .3, omega (arith, start .pre .2, start .pre .0 .sized .few), start .pre .0 .sized .labels)
+unlabel-requires : tie.Need-unlabel-requires Inv-loop μ-loop
+unlabel-requires c κs = let p = c .before .before .before .before .before .before .pre in (omega (arith, p .2, p .0 .sized .few), p .0 .sized .labels)
+
+element-write-labels : tie.Need-element-write-labels Inv-loop μ-loop
+element-write-labels c = let p = c .before .before .before .before .before .before .before .pre in omega (arith, p .2, p .3, p .0 .sized .few)
+
+cast-bases : tie.Need-cast-bases Inv-loop μ-loop
+cast-bases c = let p = c .before .before .before .before .before .before .before .pre in omega (arith, p .2, p .3, p .0 .sized .few)
+
+mul-bases : tie.Need-mul-bases Inv-loop μ-loop
+mul-bases c = let p = c .before .before .before .before .before .before .before .pre in omega (arith, p .2, p .3, p .0 .sized .few)
+
+element-write-bases : tie.Need-element-write-bases Inv-loop μ-loop
+element-write-bases c = let p = c .before .before .before .before .before .before .before .pre in omega (arith, p .2, p .3, p .0 .sized .few)
+
+cast-queue : tie.Need-cast-queue Inv-loop μ-loop
+cast-queue c = let p = c .before .before .before .before .before .before .before .pre in omega (arith, p .2, p .3, p .0 .sized .few)
+
+element-write-queue : tie.Need-element-write-queue Inv-loop μ-loop
+element-write-queue c = omega arith
 
 loop-holds : tie.Need-loop-holds Inv-loop μ-loop
 loop-holds c =
-    let start = c .before .before .before .before .before .before .before in
-    let number = start .pre .2 in
-    let B = c .begin .ensures in
-    let inside = rw number at (start .pre .3) in
-    let L = rw number at (B .relabelled) in (
-      rw (B .arrays, c .before .before .root-row .ensures) (search-begins _ _ _ (start .pre .0) _ (start .pre .1) inside (start .pre .4) (start .pre .5) _ L),
-      number,
-      ap (λ (t : Matching). t .done) (B .arrays),
-      refl,
-    )
+    let p = c .before .before .before .before .before .before .before .pre in
+    let inside = rw (p .2) at (p .3) in
+    let L = rw (p .2) at (c .unlabel .ensures) in
+    (rw (c .before .before .before .root-row .ensures) (search-begins _ _ _ (p .0) _ (rw (p .2) at (p .1)) inside (p .4) (p .5) _ L), p .2, refl)
 
-scan-requires : tie.Need-scan-requires Inv-loop μ-loop
-scan-requires c κs =
-    let inv = c .before .before .before .loop .inv in
-    (inv .0, inv .1, c .before .if1 .taken, inv .2)
+extend-requires : tie.Need-extend-requires Inv-loop μ-loop
+extend-requires c κs = let inv = c .before .before .before .before .before .before .before .before .loop .inv in (inv .0, inv .1, c .before .before .before .before .before .before .if1 .taken, c .before .before .before .before .before .before .before .before .before .before .before .before .before .before .before .before .pre .6)
 
 same-length : tie.Need-same-length Inv-loop μ-loop
-same-length c = c .before .before .scan .kept .1 .0 ∙ (c .before .before .before .before .before .before .loop .inv .3 ∙ c .before .before .before .before .before .before .before .before .before .root-row .kept .0)
+same-length c = c .before .before .extend .kept .1 .1 .0 ∙ (c .before .before .before .before .before .before .before .before .before .before .before .loop .inv .2 ∙ c .before .before .before .before .before .before .before .before .before .before .before .before .before .before .before .root-row .kept .0)
 
 returns : tie.Need-returns Inv-loop μ-loop
 returns c =
-    let O = c .before .before .scan .ensures in
-    (rw add-one (O .enlarged (c .if2 .taken)), O .square)
+    let O = c .before .before .extend .ensures in
+    let S = O .enlarged (c .if2 .taken) in
+    (rw add-one (rested _ _ _ _ _ _ (S .sized .parents) (S .sized .queue) S), rw (c .before .before .before .before .before .before .before .before .before .before .before .loop .inv .1) (O .square))
 
-add-h : tie.Need-add-h Inv-loop μ-loop
-add-h c =
-    let at = c .before .before .before .before .before .before .loop .inv .0 in
-    let few = at .standing .sized .few in
-    let most = clock-most _ _ _ _ (at .standing .stands) in
-    omega (arith, c .before .before .before .before .if1 .taken, few, most)
+add-g : tie.Need-add-g Inv-loop μ-loop
+add-g c =
+    let at = c .before .before .before .before .before .before .before .before .before .before .before .loop .inv .0 in
+    omega (arith, c .before .before .before .before .before .before .before .before .before .if1 .taken, at .standing .sized .few, clock-most _ _ _ _ (at .standing .stands))
 
 loop-less : tie.Need-loop-less Inv-loop μ-loop
 loop-less c =
-    let at = c .before .before .before .before .before .before .loop .inv .0 in
-    let few = at .standing .sized .few in
-    let most = clock-most _ _ _ _ (at .standing .stands) in
-    omega (arith, c .before .before .before .before .if1 .taken, c .before .before .before .before .before .before .loop .inv .1, most)
+    let at = c .before .before .before .before .before .before .before .before .before .before .before .loop .inv .0 in
+    omega (arith, c .before .before .before .before .before .before .before .before .before .if1 .taken, c .before .before .before .before .before .before .before .before .before .before .before .loop .inv .1, clock-most _ _ _ _ (at .standing .stands))
 
 loop-again : tie.Need-loop-again Inv-loop μ-loop
 loop-again c =
-    let O = c .before .before .scan .ensures in
-    (O .going (c .if2 .left), c .before .before .before .before .before .before .loop .inv .1, c .if2 .left, c .before .before .scan .kept .1 .0 ∙ c .before .before .before .before .before .before .loop .inv .3)
+    let inv = c .before .before .before .before .before .before .before .before .before .before .before .loop .inv in
+    (c .before .before .extend .ensures .going (c .if2 .left), inv .1, c .before .before .extend .kept .1 .1 .0 ∙ inv .2)
 
-end-requires : tie.Need-end-requires Inv-loop μ-loop
-end-requires c κs =
-    let inv = c .before .before .loop .inv in
-    (omega (arith, inv .1, inv .0 .standing .sized .few), inv .0 .standing .sized .labels)
+scan-requires : tie.Need-scan-requires Inv-loop μ-loop
+scan-requires c κs = let inv = c .before .before .before .before .before .before .before .before .loop .inv in (inv .0, inv .1, c .before .before .before .before .before .before .before .loop-test .taken, c .before .before .before .before .before .before .before .before .before .before .before .before .before .before .before .before .pre .6)
 
 same-length-2 : tie.Need-same-length-2 Inv-loop μ-loop
-same-length-2 c = c .before .before .before .loop .inv .3 ∙ c .before .before .before .before .before .before .root-row .kept .0
+same-length-2 c = c .before .before .scan .kept .1 .1 .0 ∙ (c .before .before .before .before .before .before .before .before .before .before .before .loop .inv .2 ∙ c .before .before .before .before .before .before .before .before .before .before .before .before .before .before .before .root-row .kept .0)
 
 returns-2 : tie.Need-returns-2 Inv-loop μ-loop
 returns-2 c =
-    let start = c .before .before .before .before .before .before .before .before .before .before .before in
+    let O = c .before .before .scan .ensures in
+    let S = O .enlarged (c .if3 .taken) in
+    (rw add-one (rested _ _ _ _ _ _ (S .sized .parents) (S .sized .queue) S), rw (c .before .before .before .before .before .before .before .before .before .before .before .loop .inv .1) (O .square))
+
+add-h : tie.Need-add-h Inv-loop μ-loop
+add-h c =
+    let at = c .before .before .before .before .before .before .before .before .before .before .before .loop .inv .0 in
+    omega (arith, c .before .before .before .before .before .before .before .before .before .before .loop-test .taken, at .standing .sized .few, clock-most _ _ _ _ (at .standing .stands))
+
+loop-less-2 : tie.Need-loop-less-2 Inv-loop μ-loop
+loop-less-2 c =
+    let at = c .before .before .before .before .before .before .before .before .before .before .before .loop .inv .0 in
+    omega (arith, c .before .before .before .before .before .before .before .before .before .before .loop-test .taken, c .before .before .before .before .before .before .before .before .before .before .before .loop .inv .1, clock-most _ _ _ _ (at .standing .stands))
+
+loop-again-2 : tie.Need-loop-again-2 Inv-loop μ-loop
+loop-again-2 c =
+    let inv = c .before .before .before .before .before .before .before .before .before .before .before .loop .inv in
+    (c .before .before .scan .ensures .going (c .if3 .left), inv .1, c .before .before .scan .kept .1 .1 .0 ∙ inv .2)
+
+freeze-requires : tie.Need-freeze-requires Inv-loop μ-loop
+freeze-requires c κs =
+    let inv = c .before .before .loop .inv in (omega (arith, inv .1, inv .0 .standing .sized .few), inv .0 .standing .sized .labels)
+
+same-length-3 : tie.Need-same-length-3 Inv-loop μ-loop
+same-length-3 c = c .before .before .before .loop .inv .2 ∙ c .before .before .before .before .before .before .before .root-row .kept .0
+
+returns-3 : tie.Need-returns-3 Inv-loop μ-loop
+returns-3 c =
     let inv = c .before .before .before .loop .inv in
-    let E = c .end .ensures in
-    let L = rw (inv .1) at (E .relabelled) in (
-      rw (E .arrays) (search-ends _ (adjacent-symmetric (start .args .ends .now)) _ _ _ _ (inv .0) (c .before .if1 .left) _ L),
-      inv .0 .standing .square,
-    )
+    let over : c .before .before .before .loop .clock ≤ c .before .before .before .loop .h = omega (arith, c .before .before .loop-test .left) in
+    let L = rw (inv .1) at (c .freeze .ensures) in
+    let S = search-ends _ (adjacent-symmetric (c .before .before .before .before .before .before .before .before .before .before .before .args .ends .now)) _ _ _ _ (inv .0) over _ L in
+    (rested _ _ _ _ _ _ (S .sized .parents) (S .sized .queue) S, rw (inv .1) (inv .0 .standing .square))
 
 pub search-spec : {M : Type 1} → statement M
 search-spec =
@@ -99,14 +126,26 @@ search-spec =
     Inv-loop
     μ-loop
     root-row-requires
-    begin-requires
+    unlabel-requires
+    element-write-labels
+    cast-bases
+    mul-bases
+    element-write-bases
+    cast-queue
+    element-write-queue
     loop-holds
-    scan-requires
+    extend-requires
     same-length
     returns
-    add-h
+    add-g
     loop-less
     loop-again
-    end-requires
+    scan-requires
     same-length-2
-    returns-2)
+    returns-2
+    add-h
+    loop-less-2
+    loop-again-2
+    freeze-requires
+    same-length-3
+    returns-3)

@@ -8,10 +8,10 @@ use Rattle.matching.proofs.starts.greedy.Statement.{statement}
 use Rattle.matching.proofs.starts.greedy.Tie as tie
 
 abbrev Inv-loop : tie.InvT-loop
-Inv-loop ends mates₀ m i₀ mates i = (i ≤ m) × Matched (requestsOf ends) mates
+Inv-loop ends sets mates₀ m i₀ mates i = (i ≤ m) × Matched (requestsOf ends) mates
 
 abbrev μ-loop : tie.MeasureT-loop
-μ-loop ends mates₀ m i₀ mates i = m - i
+μ-loop ends sets mates₀ m i₀ mates i = m - i
 
 loop-holds : tie.Need-loop-holds Inv-loop μ-loop
 loop-holds c = (omega arith, search needs)

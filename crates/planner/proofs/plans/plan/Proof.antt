@@ -2,6 +2,7 @@ use mathlib.Core.Path.{sym, _∙_}
 use lib.ListN.{length}
 use Rattle.ring.specs.Requests.{requestsOf}
 use Rattle.ring.proofs.AdmissionLaws.{CallLimits}
+use Rattle.ring.proofs.RequestLaws.{valid-on-256}
 use Rattle.matching.specs.Maximum.{pairsOf}
 use Rattle.planner.proofs.MateLaws.{pairs-by-lower}
 use Rattle.planner.proofs.ChoiceLaws.{made-fits, colourable-if, choosable-if, chosen-from, plan-refused, plan-made}
@@ -35,7 +36,8 @@ colour-requires c κs =
     colourable-if (a .answer2 .given .0 .0 .nodes) (a .answer2 .given .0 .0 .colours) (s .args .ends .now) (s .args .table .now) (limits (c .before))
 
 maximum-requires : tie.Need-maximum-requires
-maximum-requires c κs = limits (c .before .before .before .before) .list .valid .few
+maximum-requires c κs =
+    let l = limits (c .before .before .before .before) in valid-on-256 _ _ (l .ring .nodes-to) (l .list .valid)
 
 choose-requires : tie.Need-choose-requires
 choose-requires c κs =

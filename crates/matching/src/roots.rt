@@ -1,0 +1,155 @@
+// The searches from all exposed requests.
+use super::searches::search;
+use super::steps::wide;
+ghost use mathlib.Core.Path.{_≡_};
+ghost use mathlib.Core.Bool.{Bool, _&&_};
+ghost use Prim.Native.Nat.{_<_, _≤_};
+ghost use lib.Dec.{eqb, ltb};
+ghost use lib.ListN.{length, getD};
+ghost use Rattle.ring.specs.Requests.{requestsOf};
+ghost use Rattle.matching.specs.Arrays.{rest};
+ghost use Rattle.matching.specs.Search.{Square, Settled};
+ghost use Rattle.matching.specs.Progress.{Mapped, Due};
+
+// Whether r is exposed and not frozen.
+fn is_open(mates: &[u16; 512], labels: &[u8; 512], r: usize) -> bool
+    requires { ⌜ r < 512 ⌝ }
+    ensures { λ t. ⌜ t ≡ (eqb (getD (now (mates .entry)) r 0) r && ltb (getD (now (labels .entry)) r 0) 3) ⌝ }
+{
+    if wide(mates[r]) != r {
+        return false;
+    }
+    labels[r] < 3
+}
+
+// Searches from each exposed request from `first` on, with a row for each request.
+fn search_all(
+    ends: &[u16],
+    sets: &[[u64; 8]],
+    rows: &mut [[u16; 512]],
+    mates: &mut [u16; 512],
+    labels: &mut [u8; 512],
+    bases: &mut [u16; 512],
+    first: usize,
+    m: usize,
+)
+    requires { ⌜ Due (requestsOf (now ends)) (now sets) (now mates) (now labels) (now bases) first m × Square m (now rows) ⌝ }
+    ensures { λ _. ⌜ Settled (requestsOf (now (ends .entry))) (rest (now (mates .exit)) (now (labels .exit)) (now (bases .exit))) m ⌝ }
+{
+    let mut parents = [0u16; 512];
+    let mut queue = [0u16; 512];
+    let mut r = first;
+    while r < m {
+        if is_open(mates, labels, r) {
+            search(
+                ends,
+                sets,
+                rows,
+                mates,
+                labels,
+                bases,
+                &mut parents,
+                &mut queue,
+                r,
+                m,
+            );
+        }
+        r += 1;
+    }
+}
+
+fn with_64_rows(
+    ends: &[u16],
+    sets: &[[u64; 8]],
+    mates: &mut [u16; 512],
+    labels: &mut [u8; 512],
+    bases: &mut [u16; 512],
+    first: usize,
+    m: usize,
+)
+    requires { ⌜ Due (requestsOf (now ends)) (now sets) (now mates) (now labels) (now bases) first m × (m ≤ 64) ⌝ }
+    ensures { λ _. ⌜ Settled (requestsOf (now (ends .entry))) (rest (now (mates .exit)) (now (labels .exit)) (now (bases .exit))) m ⌝ }
+{
+    let zeros = [0u16; 512];
+    let mut rows = [zeros; 64];
+    search_all(ends, sets, &mut rows, mates, labels, bases, first, m);
+}
+
+fn with_128_rows(
+    ends: &[u16],
+    sets: &[[u64; 8]],
+    mates: &mut [u16; 512],
+    labels: &mut [u8; 512],
+    bases: &mut [u16; 512],
+    first: usize,
+    m: usize,
+)
+    requires { ⌜ Due (requestsOf (now ends)) (now sets) (now mates) (now labels) (now bases) first m × (m ≤ 128) ⌝ }
+    ensures { λ _. ⌜ Settled (requestsOf (now (ends .entry))) (rest (now (mates .exit)) (now (labels .exit)) (now (bases .exit))) m ⌝ }
+{
+    let zeros = [0u16; 512];
+    let mut rows = [zeros; 128];
+    search_all(ends, sets, &mut rows, mates, labels, bases, first, m);
+}
+
+fn with_256_rows(
+    ends: &[u16],
+    sets: &[[u64; 8]],
+    mates: &mut [u16; 512],
+    labels: &mut [u8; 512],
+    bases: &mut [u16; 512],
+    first: usize,
+    m: usize,
+)
+    requires { ⌜ Due (requestsOf (now ends)) (now sets) (now mates) (now labels) (now bases) first m × (m ≤ 256) ⌝ }
+    ensures { λ _. ⌜ Settled (requestsOf (now (ends .entry))) (rest (now (mates .exit)) (now (labels .exit)) (now (bases .exit))) m ⌝ }
+{
+    let zeros = [0u16; 512];
+    let mut rows = [zeros; 256];
+    search_all(ends, sets, &mut rows, mates, labels, bases, first, m);
+}
+
+fn with_512_rows(
+    ends: &[u16],
+    sets: &[[u64; 8]],
+    mates: &mut [u16; 512],
+    labels: &mut [u8; 512],
+    bases: &mut [u16; 512],
+    first: usize,
+    m: usize,
+)
+    requires { ⌜ Due (requestsOf (now ends)) (now sets) (now mates) (now labels) (now bases) first m × (m ≤ 512) ⌝ }
+    ensures { λ _. ⌜ Settled (requestsOf (now (ends .entry))) (rest (now (mates .exit)) (now (labels .exit)) (now (bases .exit))) m ⌝ }
+{
+    let zeros = [0u16; 512];
+    let mut rows = [zeros; 512];
+    search_all(ends, sets, &mut rows, mates, labels, bases, first, m);
+}
+
+// The same. Rows are what takes memory and time to lay out, so a short list gets few of them.
+pub fn search_from(
+    ends: &[u16],
+    sets: &[[u64; 8]],
+    mates: &mut [u16; 512],
+    labels: &mut [u8; 512],
+    bases: &mut [u16; 512],
+    first: usize,
+    m: usize,
+)
+    requires { ⌜ Due (requestsOf (now ends)) (now sets) (now mates) (now labels) (now bases) first m ⌝ }
+    ensures { λ _. ⌜ Settled (requestsOf (now (ends .entry))) (rest (now (mates .exit)) (now (labels .exit)) (now (bases .exit))) m ⌝ }
+{
+    if m <= 64 {
+        with_64_rows(ends, sets, mates, labels, bases, first, m);
+        return;
+    }
+    if m <= 128 {
+        with_128_rows(ends, sets, mates, labels, bases, first, m);
+        return;
+    }
+    if m <= 256 {
+        with_256_rows(ends, sets, mates, labels, bases, first, m);
+        return;
+    }
+    with_512_rows(ends, sets, mates, labels, bases, first, m);
+}
