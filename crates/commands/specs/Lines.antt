@@ -88,6 +88,6 @@ abbrev pub KeptSays : Type 0
 KeptSays = (text : List ℕ) → commandOf (take 64 text) ≡ commandOf text
 
 -- a line of which these bytes are kept, with one byte more: as many of its first bytes are kept as there is room for
-pub record Keeps (line : List ℕ) (kept byte : ℕ) (after : List ℕ) (now : ℕ) : Type 0 where
-  pub within : now ≤ length after
-  pub same : kept ≤ length line → take now after ≡ take (length line) (take kept line ++ (byte ∷ []))
+pub record Keeps (line : List ℕ) (kept byte : ℕ) (after : List ℕ) (size : ℕ) : Type 0 where
+  pub within : size ≤ length after
+  pub same : kept ≤ length line → take size after ≡ take (length line) (take kept line ++ (byte ∷ []))
