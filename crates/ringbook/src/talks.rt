@@ -4,8 +4,12 @@ use commands::lines::keep;
 use commands::obey;
 use libc::STDIN_FILENO;
 use libc::STDOUT_FILENO;
+ghost use mathlib.Core.Path.{_≡_};
 ghost use Prim.Native.Nat.{_≤_};
 ghost use lib.ListN.{length};
+ghost use Rattle.commands.specs.Lines.{commandOf};
+ghost use Rattle.commands.specs.Sessions.{ValidSession, after};
+ghost use Rattle.ringbook.specs.Talks.{Typed, withBytes, Follows};
 
 // The session, and how many bytes of the present line are kept.
 pub struct Turn {
@@ -19,7 +23,9 @@ pub fn say(text: &[u8]) {
 }
 
 // Obeys a line and says the answer.
-fn obey_line(session: Session, line: &[u8]) -> Session {
+fn obey_line(session: Session, line: &[u8]) -> Session
+    ensures { λ r. ⌜ (ValidSession session → r ≡ after session (commandOf (now (line .entry)))) ⌝ }
+{
     let mut out = [0u8; 128];
     let obeyed = obey(session, line, &mut out);
     let length = obeyed.length;
@@ -30,7 +36,8 @@ fn obey_line(session: Session, line: &[u8]) -> Session {
 // Takes the bytes that came, and obeys each line that they close.
 fn take_in(session: Session, line: &mut [u8], kept: usize, bytes: &[u8]) -> Turn
     requires { ⌜ kept ≤ length (now line) ⌝ }
-    ensures { λ r. ⌜ r .kept ≤ length (now (line .exit)) ⌝ }
+    ensures within { λ r. ⌜ r .kept ≤ length (now (line .exit)) ⌝ }
+    ensures follows { λ r. ⌜ ((t : Typed) → Follows t session (now (line .entry)) kept → Follows (withBytes t (now (bytes .entry))) (r .session) (now (line .exit)) (r .kept)) ⌝ }
 {
     let mut state = session;
     let mut now_kept = kept;

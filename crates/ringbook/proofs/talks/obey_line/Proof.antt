@@ -1,3 +1,4 @@
+use native.Mathlib.Omega.{arith}
 use mathlib.Core.Path.{sym}
 use lib.Seq.{length-take-le}
 use borrow.Author.Needs.{needs}
@@ -20,7 +21,7 @@ say-requires : tie.Need-say-requires
 say-requires c κs = search needs
 
 returns : tie.Need-returns
-returns c = search needs
+returns c = λ v. c .before .before .before .before .obey .ensures .obeyed (omega arith) v .session
 
 pub obey-line-spec : {M : Type 1} → statement M
 obey-line-spec =
