@@ -11,10 +11,10 @@ use Rattle.ring.proofs.Cases.{less, not-less, compare}
 use Rattle.listing.specs.Reading.{lineFeed}
 use Rattle.commands.specs.declared.sessions.Session.{Session}
 use Rattle.commands.specs.Lines.{commandOf, Keeps}
-use Rattle.commands.specs.Sessions.{ValidSession, after}
+use Rattle.commands.specs.Sessions.{ValidSession, answered, after}
 use Rattle.commands.proofs.LongLines.{kept-says}
 use Rattle.commands.proofs.SessionValidity.{after-valid}
-use Rattle.ringbook.specs.Talks.{Typed, withByte, withBytes, Follows}
+use Rattle.ringbook.specs.Talks.{Typed, withByte, withBytes, Follows, Takes, Heard, Talked}
 
 -- what is cut off a list does not show at the front of a longer one
 take-front : (n : ℕ) (xs ys : List ℕ) → take n (take n xs ++ ys) ≡ take n (xs ++ ys)
@@ -74,3 +74,42 @@ module _ (t : Typed) (bytes : List ℕ) (i : ℕ) (h : i < length bytes) {s next
 pub all-taken : (t : Typed) (bytes : List ℕ) (i : ℕ) {s : Session} {line : List ℕ} {kept : ℕ} → length bytes ≤ i → Follows (withBytes t (take i bytes)) s line kept
     → Follows (withBytes t bytes) s line kept
 all-taken t bytes i h f = rw (take-all i bytes h) at f
+
+-- nothing was read, or bytes after others
+pub heard-none : (s : Session) (line : List ℕ) (kept : ℕ) → Heard s line kept s line kept
+heard-none s line kept = record { bytes = []; takes = record { follows = λ t f. f } }
+
+pub heard : {bytes : List ℕ} {s next : Session} {line out : List ℕ} {kept size : ℕ} → Takes bytes s line kept next out size → Heard s line kept next out size
+heard {bytes} x = record { bytes = bytes; takes = x }
+
+with-append : (t : Typed) (xs ys : List ℕ) → withBytes t (xs ++ ys) ≡ withBytes (withBytes t xs) ys
+with-append t [] ys = refl
+with-append t (x ∷ xs) ys = with-append (withByte t x) xs ys
+
+pub heard-more : {a b c : Session} {k l m : List ℕ} {i j n : ℕ} → Heard a k i b l j → Heard b l j c m n → Heard a k i c m n
+heard-more x y = record {
+  bytes = x .bytes ++ y .bytes;
+  takes = record { follows = λ t f. rw with-append (y .takes .follows (withBytes t (x .bytes)) (x .takes .follows t f)) };
+}
+
+-- the end of the input
+start : (s : Session) (line : List ℕ) → length line ≡ 64 → ValidSession s → Follows (record { session = s; line = [] }) s line 0
+start s line h v = record { same = refl; valid = v; room = h; inside = omega arith; front = sym (take-nil 64) }
+
+nothing-said : (s : Session) → s ≡ after s (commandOf [])
+unfolding commandOf answered
+nothing-said s = refl
+
+pub talked : {s state last : Session} {line out : List ℕ} {kept : ℕ} → Heard s line 0 state out kept → length line ≡ 64
+    → (ValidSession state → last ≡ after state (commandOf (take kept out))) → Talked s last
+talked {s} {state} {last} {line} {out} {kept} x h o = record {
+  input = x .bytes;
+  same = λ v.
+      let f = x .takes .follows _ (start s line h v) in
+      let typed = withBytes (record { session = s; line = [] }) (x .bytes) in
+      let says : commandOf (take kept out) ≡ commandOf (typed .line) = ap commandOf (f .front) ∙ kept-says (typed .line) in
+      o (f .valid) ∙ (ap (after state) says ∙ ap (λ (y : Session). after y (commandOf (typed .line))) (f .same));
+}
+
+pub talked-whole : {s state : Session} {line out : List ℕ} {kept : ℕ} → Heard s line 0 state out kept → length line ≡ 64 → kept ≡ 0 → Talked s state
+talked-whole {s} {state} {line} {out} {kept} x h e = talked x h (λ v. nothing-said state ∙ rw e refl)

@@ -33,3 +33,21 @@ pub record Follows (t : Typed) (s : Session) (line : List ℕ) (kept : ℕ) : Ty
   pub room : length line ≡ 64
   pub inside : kept ≤ length line
   pub front : take kept line ≡ take 64 (t .line)
+
+-- the state after these bytes follows what was typed with them
+pub record Takes (bytes : List ℕ) (s : Session) (line : List ℕ) (kept : ℕ) (next : Session) (out : List ℕ) (size : ℕ) : Type 0 where
+  pub follows : (t : Typed) → Follows t s line kept → Follows (withBytes t bytes) next out size
+
+-- the same after some bytes, whatever was read
+pub record Heard (s : Session) (line : List ℕ) (kept : ℕ) (next : Session) (out : List ℕ) (size : ℕ) : Type 0 where
+  pub bytes : List ℕ
+  pub takes : Takes bytes s line kept next out size
+
+-- at the end of the input a last line without line feed is obeyed as it stands
+abbrev pub ended : Typed → Session
+ended t = after (t .session) (commandOf (t .line))
+
+-- the session at the end is that after the lines of some input
+pub record Talked (s last : Session) : Type 0 where
+  pub input : List ℕ
+  pub same : ValidSession s → last ≡ ended (withBytes (record { session = s; line = [] }) input)

@@ -9,7 +9,7 @@ ghost use Prim.Native.Nat.{_≤_};
 ghost use lib.ListN.{length};
 ghost use Rattle.commands.specs.Lines.{commandOf};
 ghost use Rattle.commands.specs.Sessions.{ValidSession, after};
-ghost use Rattle.ringbook.specs.Talks.{Typed, withBytes, Follows};
+ghost use Rattle.ringbook.specs.Talks.{Takes, Heard, Talked};
 
 // The session, and how many bytes of the present line are kept.
 pub struct Turn {
@@ -37,7 +37,7 @@ fn obey_line(session: Session, line: &[u8]) -> Session
 fn take_in(session: Session, line: &mut [u8], kept: usize, bytes: &[u8]) -> Turn
     requires { ⌜ kept ≤ length (now line) ⌝ }
     ensures within { λ r. ⌜ r .kept ≤ length (now (line .exit)) ⌝ }
-    ensures follows { λ r. ⌜ ((t : Typed) → Follows t session (now (line .entry)) kept → Follows (withBytes t (now (bytes .entry))) (r .session) (now (line .exit)) (r .kept)) ⌝ }
+    ensures takes { λ r. ⌜ Takes (now (bytes .entry)) session (now (line .entry)) kept (r .session) (now (line .exit)) (r .kept) ⌝ }
 {
     let mut state = session;
     let mut now_kept = kept;
@@ -61,7 +61,8 @@ fn take_in(session: Session, line: &mut [u8], kept: usize, bytes: &[u8]) -> Turn
 // Reads once.
 fn listen(session: Session, line: &mut [u8], kept: usize) -> Turn
     requires { ⌜ kept ≤ length (now line) ⌝ }
-    ensures { λ r. ⌜ r .kept ≤ length (now (line .exit)) ⌝ }
+    ensures within { λ r. ⌜ r .kept ≤ length (now (line .exit)) ⌝ }
+    ensures heard { λ r. ⌜ Heard session (now (line .entry)) kept (r .session) (now (line .exit)) (r .kept) ⌝ }
 {
     let mut bytes = io::buffer();
     let got = libc::read(STDIN_FILENO, &mut bytes);
@@ -80,7 +81,9 @@ fn listen(session: Session, line: &mut [u8], kept: usize) -> Turn
 }
 
 // Talks to the end of the input. Nothing says that an input ends, so the loop counts its turns down, from a number that no run uses up.
-pub fn talk(session: Session) -> Session {
+pub fn talk(session: Session) -> Session
+    ensures { λ r. ⌜ Talked session r ⌝ }
+{
     // No command has more than 30 bytes: what the first 64 bytes of a line say, the whole line says.
     let mut line = [0u8; 64];
     let mut state = session;

@@ -54,7 +54,7 @@ same-length : tie.Need-same-length Inv-loop μ-loop
 same-length c = search needs
 
 returns : tie.Need-returns Inv-loop μ-loop
-returns c = (omega arith, λ t f. all-taken t (c .before .before .before .before .args .bytes .now) (c .before .loop .i) (c .loop-test .left) (c .before .loop .inv .3 t f))
+returns c = (omega arith, record { follows = λ t f. all-taken t (c .before .before .before .before .args .bytes .now) (c .before .loop .i) (c .loop-test .left) (c .before .loop .inv .3 t f) })
 
 pub take-in-spec : {M : Type 1} → statement M
 take-in-spec =
