@@ -1,31 +1,48 @@
--- `sizes::lists::size` meets its contract: the first 2 m ends are those of m requests. Assumes nothing.
-use Prim.Native.Nat.{ℕ, _*_, _≤_}
+-- The first 2 m ends are lent.
 use mathlib.Core.Path.{sym}
-use mathlib.Core.List.{List}
 use native.Mathlib.Omega.{arith}
-use borrow.Author.Needs.{needs}
-use lib.ListN.{length, take, length-take}
 use lib.Seq.{length-take-le}
-use Rattle.ring.specs.Requests.{requestsOf}
-use Rattle.ring.proofs.RequestLaws.{requests-length}
+use borrow.Author.Needs.{needs}
 use Rattle.sizes.proofs.lists.size.Statement.{statement}
 use Rattle.sizes.proofs.lists.size.Tie as tie
-
--- at most 1024 ends are those of at most 512 requests
-few : (ends : List ℕ) (k : ℕ) → k ≤ 1024 → length (requestsOf (take k ends)) ≤ 512
-few ends k h = omega (arith, requests-length (take k ends), length-take k ends)
 
 mul-count : tie.Need-mul-count
 mul-count c = search needs
 
-slice-aggregate-maximum : tie.Need-slice-aggregate-maximum
-slice-aggregate-maximum c = sym (length-take-le _ _ (omega arith))
+slice-aggregate-plan : tie.Need-slice-aggregate-plan
+slice-aggregate-plan c = sym (length-take-le _ _ (omega arith))
 
-maximum-requires : tie.Need-maximum-requires
-maximum-requires c κs = few (c .before .before .args .ends .now) (2 * c .before .before .args .m) (omega arith)
+slice-aggregate-plan-2 : tie.Need-slice-aggregate-plan-2
+slice-aggregate-plan-2 c = search needs
+
+plan-requires : tie.Need-plan-requires
+plan-requires c κs = search needs
+
+enum-known-answer : tie.Need-enum-known-answer
+enum-known-answer c = search needs
+
+cast-result : tie.Need-cast-result
+cast-result c = search needs
+
+enum-known-answer-2 : tie.Need-enum-known-answer-2
+enum-known-answer-2 c = search needs
 
 returns : tie.Need-returns
 returns c = search needs
 
+returns-2 : tie.Need-returns-2
+returns-2 c = search needs
+
 pub size-spec : {M : Type 1} → statement M
-size-spec = tie.close (tie.spec mul-count slice-aggregate-maximum maximum-requires returns)
+size-spec =
+    tie.close
+    (tie.spec
+    mul-count
+    slice-aggregate-plan
+    slice-aggregate-plan-2
+    plan-requires
+    enum-known-answer
+    cast-result
+    enum-known-answer-2
+    returns
+    returns-2)
