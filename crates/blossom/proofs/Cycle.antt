@@ -25,6 +25,13 @@ cycle M s x y v = odd? (s .label v) && differ (below M s v x) (below M s v y)
 pub cycle-odd : (M : ℕ → ℕ) (s : State) (x y v : ℕ) → cycle M s x y v ≡ true → s .label v ≡ Odd
 cycle-odd M s x y v a = elim (label-case (s .label v)) [ is-free e ↦ cc | is-even e ↦ cc | is-odd e ↦ e | is-frozen e ↦ cc ]
 
+-- it has no direction
+pub cycle-symmetric : (M : ℕ → ℕ) (s : State) (x y v : ℕ) → cycle M s x y v ≡ cycle M s y x v
+cycle-symmetric M s x y v = elim (is (below M s v x)) [
+  | yes e ↦ elim (is (below M s v y)) [ yes f ↦ cc | no f ↦ cc ]
+  | no e ↦ elim (is (below M s v y)) [ yes f ↦ cc | no f ↦ cc ]
+]
+
 -- b is a base on the walk up from x: outside of A, the same odd vertices are above b as above x
 pub record Walk (M : ℕ → ℕ) (s : State) (A : ℕ → Bool) (x b : ℕ) : Type 0 where
   pub is-base : two (s .label b) (s .base b) ≡ two Even b

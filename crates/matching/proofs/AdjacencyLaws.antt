@@ -6,11 +6,11 @@ use mathlib.Core.List.{List, [], _∷_}
 use native.Mathlib.Omega.{arith}
 use lib.Dec.{eqb, ltb}
 use lib.ListN.{length}
-use borrow.Author.Tests.{ltb-true, lt-ltb, ne-eqb}
+use borrow.Author.Tests.{ltb-true, lt-ltb}
 use Rattle.ring.specs.declared.requests.Request.{Request}
 use Rattle.ring.specs.Requests.{requestsOf, request}
 use Rattle.ring.specs.Chords.{compatible}
-use Rattle.ring.proofs.Cases.{Apart, apart-eqb, same, different, eqb-refl, test, impossible}
+use Rattle.ring.proofs.Cases.{same, different, test, impossible}
 use Rattle.ring.proofs.ChordLaws.{compatible-sym}
 use Rattle.blossom.proofs.Rows.{Symmetric, Mates}
 use Rattle.matching.specs.Adjacency.{adjacent}
@@ -54,23 +54,9 @@ module _ (R : List Request) (a b : ℕ) where
   unfolding adjacent
   adjacent-inside e = ltb-true b (length R) (parts (eqb a b) (ltb a (length R)) (ltb b (length R)) (compatible (request R a) (request R b)) e .2)
 
-  pub adjacent-different : adjacent R a b ≡ true → Apart a b
-  unfolding adjacent
-  adjacent-different e = apart-eqb a b (parts (eqb a b) (ltb a (length R)) (ltb b (length R)) (compatible (request R a) (request R b)) e .0)
-
-  -- for the numbers of two different requests it is compatibility
-  pub adjacent-compatible : a < length R → b < length R → (a ≡ b → ⊥) → adjacent R a b ≡ compatible (request R a) (request R b)
-  unfolding adjacent
-  adjacent-compatible h k n = cc (ne-eqb a b n, lt-ltb a (length R) h, lt-ltb b (length R) k)
-
   pub adjacent-are-compatible : adjacent R a b ≡ true → compatible (request R a) (request R b) ≡ true
   unfolding adjacent
   adjacent-are-compatible e = parts (eqb a b) (ltb a (length R)) (ltb b (length R)) (compatible (request R a) (request R b)) e .3
-
--- no request is adjacent to itself
-pub adjacent-self : (R : List Request) (a : ℕ) → adjacent R a a ≡ false
-unfolding adjacent
-adjacent-self R a = cc (eqb-refl a)
 
 pub adjacent-if : (R : List Request) (a b : ℕ) → eqb a b ≡ false → a < length R → b < length R → compatible (request R a) (request R b) ≡ true → adjacent R a b ≡ true
 unfolding adjacent

@@ -5,7 +5,7 @@ use mathlib.Core.Bool.{Bool, true, false}
 use mathlib.Core.List.{List}
 use native.Mathlib.Omega.{arith}
 use lib.Dec.{eqb}
-use lib.ListN.{length, getD, set}
+use lib.ListN.{length, getD}
 use lib.Seq.{getD-set-other}
 use borrow.Author.Tests.{ne-eqb}
 use Rattle.ring.proofs.Cases.{impossible}
@@ -17,7 +17,7 @@ use Rattle.matching.specs.Adjacency.{adjacent}
 use Rattle.matching.specs.Arrays.{Arrays}
 use Rattle.matching.specs.Model.{entry, labelOf, among}
 use Rattle.matching.specs.Search.{Standing, Settled, SearchAt, ScanAt, Outcome}
-use Rattle.matching.specs.Steps.{grownRow, grownArrays, enlargedArrays, Attachable, Attached, enlarges, grows}
+use Rattle.matching.specs.Steps.{enlargedArrays, Attachable, Attached, enlarges, grows}
 use Rattle.matching.proofs.ModelLaws.{entry-inside}
 use Rattle.matching.proofs.StandingLaws.{even-inside, mate-inside, label-number}
 use Rattle.matching.proofs.EnlargeLaws.{enlarge-settled}

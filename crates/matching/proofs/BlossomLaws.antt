@@ -5,7 +5,7 @@ use mathlib.Core.Bool.{Bool, true, false, not, cond, _&&_, _||_}
 use mathlib.Core.List.{List, []}
 use native.Mathlib.Numerals.{add-one}
 use native.Mathlib.Omega.{arith}
-use lib.ListN.{length, getD, set}
+use lib.ListN.{length, getD}
 use borrow.Author.Tests.{eqb-true, lt-ltb}
 use Rattle.ring.proofs.Cases.{yes, no, is, same, different, test, less, not-less, compare, impossible}
 use Rattle.ring.proofs.Counting.{count, bit, sum-ext, sum-add, count-le, count-true, count-split}

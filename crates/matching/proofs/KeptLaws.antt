@@ -9,9 +9,8 @@ use Rattle.ring.specs.declared.requests.Request.{Request}
 use Rattle.sets.specs.Sets.{has}
 use Rattle.blossom.proofs.Labels.{Label, Free, Even, Odd, Frozen, even?, odd?}
 use Rattle.blossom.proofs.Rows.{Symmetric}
-use Rattle.blossom.proofs.State.{State, below, Invariant}
-use Rattle.blossom.proofs.Cycle.{cycle}
-use Rattle.blossom.proofs.Climbing.{cycle-symmetric}
+use Rattle.blossom.proofs.State.{State, Invariant}
+use Rattle.blossom.proofs.Cycle.{cycle, cycle-symmetric}
 use Rattle.blossom.proofs.Kept.{kept-either}
 use Rattle.matching.specs.Adjacency.{adjacent}
 use Rattle.matching.specs.Arrays.{Arrays}

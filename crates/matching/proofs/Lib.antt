@@ -22,3 +22,4 @@ pub mod PairLaws
 pub mod SettledLaws
 pub mod CountLaws
 pub mod MaximumLaws
+pub mod AloneLaws

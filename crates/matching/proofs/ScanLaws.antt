@@ -7,8 +7,8 @@ use native.Mathlib.Nat.{add-zero}
 use native.Mathlib.Numerals.{add-one}
 use native.Mathlib.Omega.{arith}
 use lib.Dec.{eqb}
-use lib.ListN.{length, getD, set}
-use borrow.Author.Tests.{eqb-true, eq-eqb, ne-eqb}
+use lib.ListN.{length, getD}
+use borrow.Author.Tests.{eqb-true, ne-eqb}
 use Rattle.ring.proofs.Cases.{yes, no, is, impossible}
 use Rattle.ring.specs.declared.requests.Request.{Request}
 use Rattle.blossom.proofs.Labels.{Label, Free, Even, Odd, Frozen, even?}

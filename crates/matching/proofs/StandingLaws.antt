@@ -1,12 +1,11 @@
 -- What a search in progress says of its vertices.
 use Prim.Native.Nat.{ℕ, _<_, _≤_}
 use mathlib.Core.Path.{_≡_, refl}
-use mathlib.Core.Bool.{Bool, true, false, not, _||_}
+use mathlib.Core.Bool.{Bool, true, false, _||_}
 use mathlib.Core.List.{List}
 use native.Mathlib.Omega.{arith}
 use lib.Dec.{eqb, ltb}
 use lib.ListN.{length, getD}
-use Rattle.ring.proofs.Cases.{no, is}
 use Rattle.ring.proofs.Counting.{count, count-insert, count-le, count-true}
 use Rattle.ring.specs.declared.requests.Request.{Request}
 use Rattle.blossom.proofs.Labels.{Label, Free, Even, Odd, even?, frozen?, is-free, is-even, is-odd, is-frozen, label-case}

@@ -1,5 +1,5 @@
 -- The greedy start keeps a matching, and with all labels free it is what a first search begins from.
-use Prim.Native.Nat.{ℕ, _+_, _<_, _≤_}
+use Prim.Native.Nat.{ℕ, suc, _+_, _<_, _≤_}
 use mathlib.Core.Path.{_≡_, refl, ap, _∙_}
 use mathlib.Core.Bool.{Bool, true, false, _||_}
 use mathlib.Core.List.{List}
@@ -94,6 +94,12 @@ matched-identity R mates few own = record {
   places = own .places;
   mates-are = mates-agree (adjacent R) (λ z. z) _ (identity-entry (length R) mates few own) (mates-exposed (adjacent R));
 }
+
+-- every entry of a list that repeats one number
+pub repeated : (k z a : ℕ) → getD (replicate k a) z a ≡ a
+repeated Prim.Native.Nat.zero z a = refl
+repeated (suc k) Prim.Native.Nat.zero a = refl
+repeated (suc k) (suc z) a = repeated k z a
 
 -- labels of zeros are all free
 zeros-free : (m z : ℕ) → m ≤ 512 → Free ≡ settledAt m (replicate 512 0) z

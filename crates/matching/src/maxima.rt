@@ -2,6 +2,7 @@
 use super::counts::pair_count;
 use super::matchings::Matching;
 use super::roots::search_from;
+use super::roots::settle_alone;
 use super::starts::greedy;
 use super::starts::identity;
 use neighbours::prefixes;
@@ -22,7 +23,8 @@ pub fn maximum(ends: &[u16]) -> Matching
     let mut mates = bases;
     greedy(ends, &sets, &mut mates, m);
     let mut labels = [0u8; 512];
-    search_from(ends, &sets, &mut mates, &mut labels, &mut bases, 0, m);
+    let first = settle_alone(ends, &sets, &mates, &mut labels, &mut bases, m);
+    search_from(ends, &sets, &mut mates, &mut labels, &mut bases, first, m);
     let size = pair_count(&mates, m);
     Matching {
         mates: mates,

@@ -1,12 +1,15 @@
 // The searches from all exposed requests.
 use super::searches::search;
 use super::steps::wide;
+use neighbours::neighbours;
+use sets::next;
 ghost use mathlib.Core.Path.{_≡_};
-ghost use mathlib.Core.Bool.{Bool, _&&_};
-ghost use Prim.Native.Nat.{_<_, _≤_};
+ghost use mathlib.Core.Bool.{true, false, _&&_};
+ghost use Prim.Native.Nat.{ℕ, _<_, _≤_};
 ghost use lib.Dec.{eqb, ltb};
 ghost use lib.ListN.{length, getD};
 ghost use Rattle.ring.specs.Requests.{requestsOf};
+ghost use Rattle.matching.specs.Adjacency.{adjacent};
 ghost use Rattle.matching.specs.Arrays.{rest};
 ghost use Rattle.matching.specs.Search.{Square, Settled};
 ghost use Rattle.matching.specs.Progress.{Mapped, Due};
@@ -20,6 +23,45 @@ fn is_open(mates: &[u16; 512], labels: &[u8; 512], r: usize) -> bool
         return false;
     }
     labels[r] < 3
+}
+
+// Whether no request is adjacent to r.
+fn alone(ends: &[u16], sets: &[[u64; 8]], r: usize, m: usize) -> bool
+    requires { ⌜ (m ≡ length (requestsOf (now ends))) × (r < m) × Mapped (requestsOf (now ends)) (now sets) ⌝ }
+    ensures { λ t. ⌜ (t ≡ true → (z : ℕ) → adjacent (requestsOf (now (ends .entry))) r z ≡ false) ⌝ }
+{
+    let around = neighbours(ends, sets, r);
+    let first = next(&around, 0, m);
+    if first != r {
+        return false;
+    }
+    next(&around, r + 1, m) == m
+}
+
+// Freezes the exposed requests to which none is adjacent, up to the first one from which a search is due; gives that one, or m.
+pub fn settle_alone(
+    ends: &[u16],
+    sets: &[[u64; 8]],
+    mates: &[u16; 512],
+    labels: &mut [u8; 512],
+    bases: &mut [u16; 512],
+    m: usize,
+) -> usize
+    requires { ⌜ Due (requestsOf (now ends)) (now sets) (now mates) (now labels) (now bases) 0 m × ((z : ℕ) → getD (now labels) z 0 ≡ 0) ⌝ }
+    ensures { λ r. ⌜ Due (requestsOf (now (ends .entry))) (now (sets .entry)) (now (mates .entry)) (now (labels .exit)) (now (bases .exit)) r m ⌝ }
+{
+    let mut r = 0;
+    while r < m {
+        if wide(mates[r]) == r {
+            if !alone(ends, sets, r, m) {
+                return r;
+            }
+            labels[r] = 3;
+            bases[r] = r as u16;
+        }
+        r += 1;
+    }
+    m
 }
 
 // Searches from each exposed request from `first` on, with a row for each request.
@@ -139,6 +181,9 @@ pub fn search_from(
     requires { ⌜ Due (requestsOf (now ends)) (now sets) (now mates) (now labels) (now bases) first m ⌝ }
     ensures { λ _. ⌜ Settled (requestsOf (now (ends .entry))) (rest (now (mates .exit)) (now (labels .exit)) (now (bases .exit))) m ⌝ }
 {
+    if first == m {
+        return;
+    }
     if m <= 64 {
         with_64_rows(ends, sets, mates, labels, bases, first, m);
         return;

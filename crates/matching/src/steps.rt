@@ -1,7 +1,7 @@
 // The steps of a search that grow the tree or enlarge the matching.
 ghost use mathlib.Core.Path.{_≡_};
-ghost use mathlib.Core.List.{List, []};
-ghost use Prim.Native.Nat.{ℕ, _+_, _<_, _≤_};
+ghost use mathlib.Core.List.{[]};
+ghost use Prim.Native.Nat.{_+_, _<_};
 ghost use lib.ListN.{length, getD, set};
 ghost use Rattle.matching.specs.Arrays.{arrays};
 ghost use Rattle.matching.specs.Steps.{grownRow, Attachable, Attached};

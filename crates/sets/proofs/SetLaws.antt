@@ -1,19 +1,17 @@
 -- Sets, by the words that hold their numbers.
-use Prim.Native.Nat.{ℕ, zero, suc, _+_, _-_, _*_, _/_, _%_, _^_, _<_, _≤_}
-use mathlib.Core.Path.{_≡_, refl, sym, ap, _∙_}
-use mathlib.Core.Bool.{false, not, cond, _&&_, _||_, and-comm, or-comm}
+use Prim.Native.Nat.{ℕ, zero, suc, _-_, _*_, _/_, _%_, _^_, _<_}
+use mathlib.Core.Path.{_≡_, refl, ap, _∙_}
+use mathlib.Core.Bool.{false, cond, _&&_, _||_, or-comm}
 use mathlib.Core.List.{List}
-use native.Mathlib.Nat.{mod-lt}
-use native.Mathlib.Decide.{ℕ-discrete, decLt}
+use native.Mathlib.Decide.{ℕ-discrete}
 use native.Mathlib.Omega.{arith}
 use lib.Dec.{eqb}
-use lib.Bits.{bitAnd, bitOr}
-use lib.ListN.{length, getD, set, replicate, length-set, List·getD-eq-default}
+use lib.Bits.{bitOr}
+use lib.ListN.{length, getD, set, replicate}
 use lib.Seq.{getD-set-same, getD-set-other}
 use borrow.Author.Tests.{eq-eqb, ne-eqb}
-use lib.Pow.{pow-pos}
 use Rattle.sets.specs.Sets.{has}
-use Rattle.sets.proofs.BitLaws.{on, bit-zero, bit-mod, on-and, on-or, on-not, on-one}
+use Rattle.sets.proofs.BitLaws.{on, bit-zero, bit-mod, on-or, on-one}
 
 -- ---- the empty set
 

@@ -5,7 +5,7 @@ use native.Mathlib.Omega.{arith}
 use lib.ListN.{replicate, length-replicate}
 use Rattle.ring.proofs.RequestLaws.{requests-length}
 use Rattle.matching.proofs.SettledLaws.{settled-maximum}
-use Rattle.matching.proofs.StartLaws.{matched-identity, start-settled}
+use Rattle.matching.proofs.StartLaws.{matched-identity, start-settled, repeated}
 use Rattle.matching.proofs.maxima.maximum.Statement.{statement}
 use Rattle.matching.proofs.maxima.maximum.Tie as tie
 
@@ -26,30 +26,38 @@ greedy-requires c κs =
     let p = c .before .before .before .before .before .before .before .pre in
     (sym (requests-length (c .before .before .before .before .before .before .before .args .ends .now)), matched-identity _ _ (p .few) (c .before .before .identity .ensures), record { valid = p; prefixes = c .before .before .before .before .prefixes .ensures })
 
+slice-aggregate-settle-alone : tie.Need-slice-aggregate-settle-alone
+slice-aggregate-settle-alone c = sym (c .before .before .before .before .before .before .prefixes .ensures .many)
+
+settle-alone-requires : tie.Need-settle-alone-requires
+settle-alone-requires c κs =
+    let p = c .before .before .before .before .before .before .before .before .before .before .before .before .pre in
+    let blank : ℕ = 0 in (
+      record {
+        settled = start-settled _ _ (c .before .before .before .before .greedy .ensures) (c .before .before .before .before .before .before .before .identity .ensures) refl (length-replicate 512 blank) (length-replicate 512 blank);
+        number = sym (requests-length (c .before .before .before .before .before .before .before .before .before .before .before .before .args .ends .now));
+        most = omega arith;
+        mapped = record { valid = p; prefixes = c .before .before .before .before .before .before .before .before .before .prefixes .ensures };
+      },
+      λ z. repeated 512 z 0,
+    )
+
 slice-aggregate-search-from : tie.Need-slice-aggregate-search-from
-slice-aggregate-search-from c = sym (c .before .before .before .before .before .before .prefixes .ensures .many)
+slice-aggregate-search-from c = sym (c .before .before .before .before .before .before .before .before .before .before .before .prefixes .ensures .many)
 
 search-from-requires : tie.Need-search-from-requires
-search-from-requires c κs =
-    let p = c .before .before .before .before .before .before .before .before .before .before .before .before .pre in
-    let blank : ℕ = 0 in
-    record {
-      settled = start-settled _ _ (c .before .before .before .before .greedy .ensures) (c .before .before .before .before .before .before .before .identity .ensures) refl (length-replicate 512 blank) (length-replicate 512 blank);
-      number = sym (requests-length (c .before .before .before .before .before .before .before .before .before .before .before .before .args .ends .now));
-      most = omega arith;
-      mapped = record { valid = p; prefixes = c .before .before .before .before .before .before .before .before .before .prefixes .ensures };
-    }
+search-from-requires c κs = c .before .before .before .before .settle-alone .ensures
 
 pair-count-requires : tie.Need-pair-count-requires
 pair-count-requires c κs =
     let S = c .before .search-from .ensures in
-    (omega (arith, requests-length (c .before .before .before .before .before .before .before .before .before .before .before .before .before .before .args .ends .now), S .sized .few), S .sized .mates)
+    (omega (arith, requests-length (c .before .before .before .before .before .before .before .before .before .before .before .before .before .before .before .before .before .before .before .args .ends .now), S .sized .few), S .sized .mates)
 
 returns : tie.Need-returns
 returns c =
-    let number = sym (requests-length (c .before .before .before .before .before .before .before .before .before .before .before .before .before .before .before .args .ends .now)) in
+    let number = sym (requests-length (c .before .before .before .before .before .before .before .before .before .before .before .before .before .before .before .before .before .before .before .before .args .ends .now)) in
     record {
-      maximum = settled-maximum (c .before .before .before .before .before .before .before .before .before .before .before .before .before .before .before .args .ends .now) _ (rw number at (c .before .before .search-from .ensures));
+      maximum = settled-maximum (c .before .before .before .before .before .before .before .before .before .before .before .before .before .before .before .before .before .before .before .before .args .ends .now) _ (rw number at (c .before .before .search-from .ensures));
       size = rw number at (c .pair-count .ensures);
     }
 
@@ -62,6 +70,8 @@ maximum-spec =
     identity-requires
     slice-aggregate-greedy
     greedy-requires
+    slice-aggregate-settle-alone
+    settle-alone-requires
     slice-aggregate-search-from
     search-from-requires
     pair-count-requires

@@ -2,9 +2,9 @@ use Prim.Native.Nat.{ℕ, _-_, _≤_}
 use mathlib.Core.Path.{_≡_, refl, sym, ap, _∙_}
 use mathlib.Core.Logic.{⊎-elim}
 use native.Mathlib.Omega.{arith}
-use lib.ListN.{length, getD, replicate, length-replicate}
+use lib.ListN.{length, getD, length-replicate}
 use Rattle.ring.specs.Requests.{requestsOf}
-use Rattle.matching.specs.Arrays.{arrays, rest}
+use Rattle.matching.specs.Arrays.{arrays}
 use Rattle.matching.specs.Search.{Square, Settled}
 use Rattle.matching.proofs.MaximumLaws.{open-exposed, open-free, open-not}
 use Rattle.matching.proofs.SearchLaws.{settled-skip, rested}

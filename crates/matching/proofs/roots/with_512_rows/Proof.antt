@@ -1,6 +1,5 @@
 use Prim.Native.Nat.{ℕ}
 use mathlib.Core.Path.{sym}
-use mathlib.Core.List.{List}
 use lib.ListN.{replicate, length-replicate}
 use Rattle.matching.proofs.MaximumLaws.{square-blank}
 use Rattle.matching.proofs.roots.with_512_rows.Statement.{statement}

@@ -1,12 +1,10 @@
 -- The loop's invariant: the sides below v are right, and those that are not 0 are in the set.
-use Prim.Native.Nat.{ℕ, _+_, _-_, _<_, _≤_}
-use mathlib.Core.Path.{_≡_, sym, ap, _∙_}
-use mathlib.Core.Bool.{false}
+use Prim.Native.Nat.{_-_, _≤_}
+use mathlib.Core.Path.{_≡_, ap, _∙_}
 use mathlib.Core.Logic.{⊎-elim}
 use native.Mathlib.Omega.{arith}
 use borrow.Author.Needs.{needs}
-use lib.ListN.{length, getD, length-set, length-replicate}
-use Rattle.sets.specs.Sets.{has}
+use lib.ListN.{length, length-set, length-replicate}
 use Rattle.matching.specs.Rows.{sideOf}
 use Rattle.matching.proofs.RowLaws.{Filled, filled-turn, Covered, covered-none, covered-one}
 use Rattle.matching.proofs.rows.sides.Statement.{statement}

@@ -1,7 +1,6 @@
 use mathlib.Core.Path.{_≡_, sym}
 use native.Mathlib.Omega.{arith}
 use lib.ListN.{getD}
-use borrow.Author.Needs.{needs}
 use Rattle.ring.proofs.Cases.{impossible}
 use Rattle.matching.proofs.AdjacencyLaws.{adjacent-symmetric}
 use Rattle.matching.proofs.AttachLaws.{attachable, scan-attached}
