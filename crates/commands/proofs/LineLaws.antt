@@ -10,7 +10,7 @@ use lib.ListN.{length, getD, take, drop, set, length-append, length-set, drop-of
 use lib.Seq.{take-all, take-length, take-append-seam, take-suc-set, length-take-le}
 use borrow.Author.Tests.{eq-eqb, ne-eqb}
 use Rattle.ring.proofs.Cases.{less, not-less, compare, impossible}
-use Rattle.listing.specs.Reading.{space, lineFeed, line, found, two}
+use Rattle.listing.specs.Reading.{space, lineFeed, line}
 use Rattle.listing.specs.Positions.{lineIn, FieldRead, LineRead}
 use Rattle.listing.specs.declared.reading.FieldAt.{FieldAt}
 use Rattle.listing.specs.declared.reading.FieldAt.the-variants as fieldAt

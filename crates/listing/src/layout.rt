@@ -7,7 +7,6 @@ use planner::Summary;
 use ring::Fate;
 use ring::Way;
 use ring::fates::fate_of;
-ghost use mathlib.Core.Path.{_≡_};
 ghost use Prim.Native.Nat.{_+_, _≤_};
 ghost use lib.ListN.{length, take};
 ghost use Rattle.ring.specs.Plans.{fatesOf};

@@ -10,7 +10,7 @@ use ring::ways::ways_share;
 ghost use mathlib.Core.Path.{_≡_};
 ghost use mathlib.Core.Bool.{_||_};
 ghost use mathlib.Core.List.{_++_};
-ghost use Prim.Native.Nat.{_+_, _*_, _≤_, _<_};
+ghost use Prim.Native.Nat.{_+_, _≤_, _<_};
 ghost use lib.ListN.{length, drop, replicate};
 ghost use Rattle.ring.specs.Requests.{requestsOf};
 ghost use Rattle.ring.specs.Fates.{fateNumber};

@@ -1,13 +1,13 @@
 -- Sums over the numbers below m, and how many of them meet a test.
 use Prim.Native.Nat.{ℕ, zero, suc, _+_, _*_, _<_, _≤_}
-use mathlib.Core.Path.{_≡_, refl, sym, ap, _∙_}
+use mathlib.Core.Path.{_≡_, refl, sym, _∙_}
 use mathlib.Core.Bool.{Bool, true, false, not, cond, _&&_, _||_, false≢true}
 use mathlib.Core.List.{List, [], _∷_}
 use native.Mathlib.Omega.{arith}
 use lib.Dec.{eqb, ltb}
 use lib.ListN.{length, getD}
-use borrow.Author.Tests.{eqb-true, eqb-false, eq-eqb, ne-eqb, ltb-true, ltb-false, lt-ltb, le-ltb}
-use Rattle.ring.proofs.Cases.{Two, two, Apart, keep-apart, Same, same, different, test, eqb-refl, Is, yes, no, is}
+use borrow.Author.Tests.{eqb-false, ne-eqb, ltb-true, ltb-false, lt-ltb, le-ltb}
+use Rattle.ring.proofs.Cases.{two, keep-apart, same, different, test, eqb-refl, yes, no, is}
 
 -- f 0 + .. + f (m - 1)
 unfoldable pub sum : (ℕ → ℕ) → ℕ → ℕ

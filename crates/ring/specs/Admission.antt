@@ -1,10 +1,9 @@
 -- The refusals that plan and check share: 1 to 6, "tested in the order written".
 use Prim.Native.Nat.{ℕ, _+_, _/_, _%_}
-use mathlib.Core.Bool.{Bool, true, false, not, _&&_, _||_}
+use mathlib.Core.Bool.{Bool, true, false, _||_}
 use mathlib.Core.List.{List, [], _∷_}
 use lib.Dec.{eqb, leb, ltb}
 use lib.ListN.{length}
-use Rattle.ring.specs.declared.rings.Ring.{Ring}
 use Rattle.ring.specs.declared.rings.RingAnswer.{RingAnswer}
 use Rattle.ring.specs.declared.rings.RingAnswer.the-variants as answer
 use Rattle.ring.specs.declared.refusals.Refusal.{Refusal}

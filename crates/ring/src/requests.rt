@@ -7,7 +7,7 @@ use super::ways::larger;
 use super::ways::smaller;
 ghost use mathlib.Core.Path.{_≡_};
 ghost use Prim.Native.Nat.{_+_, _*_, _<_};
-ghost use lib.ListN.{length, getD};
+ghost use lib.ListN.{length};
 ghost use Rattle.ring.specs.Requests.{requestOf, requestsOf, request};
 ghost use Rattle.ring.specs.Admission.{requestVerdict, listVerdict, callAnswer};
 

@@ -5,7 +5,7 @@ use mathlib.Core.List.{List, [], _∷_, _++_, append-nil}
 use native.Mathlib.Omega.{arith}
 use lib.ListN.{length, replicate, length-append, length-replicate}
 use lib.Seq.{take-append-le}
-use Rattle.ring.proofs.Cases.{Compare, compare, less, not-less}
+use Rattle.ring.proofs.Cases.{compare, less, not-less}
 use Rattle.book.specs.declared.circuits.Circuit.{Circuit}
 use Rattle.ring.specs.declared.fates.Fate.the-variants.{Served}
 use Rattle.ring.specs.Fates.{fateNumber}

@@ -5,7 +5,7 @@ use mathlib.Core.List.{List, [], _∷_, _++_}
 use native.Mathlib.Omega.{arith}
 use lib.ListN.{length, getD, replicate, List·getD-append}
 use lib.Seq.{getD-append-add}
-use Rattle.ring.proofs.Cases.{Compare, compare, less, not-less}
+use Rattle.ring.proofs.Cases.{compare, less, not-less}
 use Rattle.ring.specs.declared.fates.Fate.the-variants.{Served}
 use Rattle.ring.specs.Fates.{fateNumber}
 use Rattle.book.specs.declared.circuits.Circuit.{Circuit}

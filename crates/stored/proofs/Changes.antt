@@ -8,7 +8,7 @@ use lib.Dec.{eqb}
 use borrow.Author.Tests.{ne-eqb}
 use lib.ListN.{length, getD, take, drop, set, length-set}
 use lib.Seq.{getD-set-same, getD-set-other, take-set-lt, take-set-le, drop-set-add, getD-take, getD-drop}
-use Rattle.ring.proofs.Cases.{Compare, compare, less, not-less}
+use Rattle.ring.proofs.Cases.{compare, less, not-less}
 use Rattle.book.specs.declared.books.Book.{Book}
 use Rattle.book.specs.Books.{liveOf}
 use Rattle.stored.specs.Blocks.{wordAt, weighted, checkOf, blockOf}

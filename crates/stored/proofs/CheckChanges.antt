@@ -9,7 +9,7 @@ use lib.Dec.{T, eqb, ltb}
 use borrow.Author.Tests.{eq-eqb, ltb-true}
 use lib.ListN.{length, getD, take, set, replicate, length-replicate}
 use lib.Seq.{take-set-lt, getD-take, length-take-le}
-use Rattle.ring.proofs.Cases.{Compare, compare, less, not-less}
+use Rattle.ring.proofs.Cases.{compare, less, not-less}
 use Rattle.stored.specs.Blocks.{weighted, checkOf}
 use Rattle.stored.proofs.Tables.{at}
 

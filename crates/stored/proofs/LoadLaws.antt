@@ -8,7 +8,6 @@ use lib.Dec.{eqb, ltb}
 use borrow.Author.Tests.{eq-eqb, ne-eqb, eqb-true, eqb-false, ltb-false}
 use lib.ListN.{length, getD, drop, drop-of-length-le}
 use Rattle.ring.specs.declared.refusals.Refusal.the-variants as ground
-use Rattle.ring.specs.declared.refusals.Verdict.{Verdict}
 use Rattle.ring.specs.declared.refusals.Verdict.the-variants as verdict
 use Rattle.ring.specs.Admission.{refuseIf, orElse}
 use Rattle.book.specs.declared.books.Book.{Book}

@@ -6,7 +6,7 @@ use mathlib.Core.List.{List, [], _++_, append-assoc}
 use native.Mathlib.Omega.{arith}
 use lib.ListN.{length, take, drop, length-take, length-drop}
 use lib.Seq.{drop-at, take-all, take-add, take-append-le, drop-append-le, getD-take, getD-drop}
-use Rattle.ring.proofs.Cases.{Compare, compare, less, not-less}
+use Rattle.ring.proofs.Cases.{compare, less, not-less}
 use Rattle.book.specs.declared.circuits.Circuit.{Circuit}
 use Rattle.book.specs.declared.books.Book.{Book}
 use Rattle.book.specs.Circuits.{vacant, circuit}

@@ -12,7 +12,6 @@ use lib.Seq.{take-at, drop-at, drop-append-add, drop-drop}
 use Rattle.ring.specs.declared.refusals.Refusal.the-variants.{BufferShort}
 use Rattle.book.specs.declared.books.Book.{Book}
 use Rattle.book.specs.Books.{liveOf}
-use Rattle.stored.specs.declared.stores.StoreAnswer.{StoreAnswer}
 use Rattle.stored.specs.declared.stores.StoreAnswer.the-variants.{Stored, Refused}
 use Rattle.stored.specs.Blocks.{word, blockOf}
 use Rattle.stored.specs.Forms.{circuitsOf, contents, blocks, blockCount, storedForm}

@@ -8,7 +8,6 @@ use Rattle.ring.specs.declared.refusals.Refusal.the-variants as ground
 use Rattle.ring.specs.declared.refusals.Verdict.{Verdict}
 use Rattle.ring.specs.declared.refusals.Verdict.the-variants as verdict
 use Rattle.ring.specs.Admission.{refuseIf, orElse}
-use Rattle.book.specs.declared.books.Book.{Book}
 use Rattle.book.specs.Books.{bookOf}
 use Rattle.stored.specs.declared.loads.LoadAnswer.the-variants as answer
 use Rattle.stored.specs.declared.loads.Loaded.{Loaded}

@@ -2,7 +2,6 @@ use mathlib.Core.Path.{ap}
 use borrow.Author.Needs.{needs}
 use Rattle.book.specs.declared.books.Book.{Book}
 use Rattle.stored.specs.declared.loads.LoadAnswer.the-variants as answer
-use Rattle.stored.specs.declared.loads.Loaded.{Loaded}
 use Rattle.stored.proofs.loads.refused.Statement.{statement}
 use Rattle.stored.proofs.loads.refused.Tie as tie
 

@@ -2,7 +2,6 @@ use mathlib.Core.Path.{ap}
 use lib.ListN.{replicate}
 use borrow.Author.Needs.{needs}
 use Rattle.book.specs.declared.circuits.Circuit.{Circuit}
-use Rattle.book.specs.declared.books.Book.{Book}
 use Rattle.stored.proofs.readers.blank.Statement.{statement}
 use Rattle.stored.proofs.readers.blank.Tie as tie
 
