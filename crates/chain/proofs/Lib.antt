@@ -2,6 +2,7 @@
 pub mod Basics
 pub mod Picking
 pub mod BestTurns
+pub mod ColoursInUse
 pub mod EndCounts
 pub mod Intervals
 pub mod IntervalsOptimal

@@ -3,7 +3,7 @@ ghost use mathlib.Core.Path.{_≡_};
 ghost use Prim.Native.Nat.{_≤_, _<_};
 ghost use lib.ListN.{length, take};
 ghost use Rattle.chain.specs.Rule.{pick, after, Below};
-ghost use Rattle.chain.specs.Walk.{Greatest, FirstWith};
+ghost use Rattle.chain.specs.Walk.{Greatest, FirstWith, InUse, usedAfter};
 
 // A colour, or none.
 pub enum Pick {
@@ -50,12 +50,27 @@ fn first_with(latest: &[u16; 128], w: usize, end: u16) -> Pick
     Pick::Nothing
 }
 
-// The colour below w whose latest end is greatest among those not above a, the lowest colour on a tie. Where none fits, every latest end is above a, and so none is 0.
-pub fn best(latest: &[u16; 128], w: usize, a: u16) -> Pick
-    requires { ⌜ (w ≤ 128) × (length (now latest) ≡ 128) ⌝ }
+// The first colour that is not in use, if there is one.
+fn unused(used: usize, w: usize) -> Pick
+    ensures { λ r. ⌜ (used < w → r ≡ Pick.Colour used) × (w ≤ used → r ≡ Pick.Nothing) ⌝ }
+{
+    if used < w {
+        Pick::Colour(used)
+    } else {
+        Pick::Nothing
+    }
+}
+
+// The colour below w whose latest end is greatest among those not above a, the lowest colour on a tie. No latest end of a colour in use is 0, so 0 says that none of them fits.
+pub fn best(latest: &[u16; 128], used: usize, w: usize, a: u16) -> Pick
+    requires { ⌜ (w ≤ 128) × (length (now latest) ≡ 128) × InUse used w (now latest) ⌝ }
     ensures { λ r. ⌜ r ≡ pick (take w (now (latest .entry))) a ⌝ }
 {
-    first_with(latest, w, greatest(latest, w, a))
+    let top = greatest(latest, used, a);
+    if top == 0 {
+        return unused(used, w);
+    }
+    first_with(latest, used, top)
 }
 
 // The latest ends after a pick for a request with the larger end b.
@@ -65,5 +80,16 @@ pub fn put(latest: &mut [u16; 128], pick: Pick, b: u16)
 {
     if let Pick::Colour(c) = pick {
         latest[c] = b;
+    }
+}
+
+// How many colours are in use after a pick.
+pub fn used_after(used: usize, pick: Pick) -> usize
+    requires { ⌜ Below pick 128 ⌝ }
+    ensures { λ r. ⌜ r ≡ usedAfter used pick ⌝ }
+{
+    match pick {
+        Pick::Colour(c) => if used <= c { c + 1 } else { used },
+        Pick::Nothing => used,
     }
 }
