@@ -3,90 +3,50 @@
 //! Each call loads the book, acts and stores it. Refusals of the load come first, then those of the
 //! operation, then 17 for a buffer with no room for the new form. Bytes past the new form stay.
 
+use crate::refusals::answered;
 use crate::{raw, Circuit, Refusal, Way};
-
-/// The answer of a call that gave a number and values.
-fn outcome(number: u16, values: [u16; 4]) -> Result<[u16; 4], Refusal> {
-    match number {
-        0 => Ok(values),
-        _ => Err(Refusal::new(number, values)),
-    }
-}
 
 /// Opens a book of n nodes and w colours; gives the length of its form.
 pub fn open(n: u16, w: u16, buffer: &mut [u8]) -> Result<usize, Refusal> {
-    let mut values = [0u16; 4];
+    let (start, room) = (buffer.as_mut_ptr(), buffer.len());
     // SAFETY: each pointer comes with the length of the slice that it points to, and the library stays within them.
-    let number = unsafe {
-        raw::tarziloen_book_open(
-            n,
-            w,
-            buffer.as_mut_ptr(),
-            buffer.len(),
-            values.as_mut_ptr(),
-            values.len(),
-        )
-    };
-    outcome(number, values).map(|values| values[0] as usize)
+    answered(|values, count| unsafe { raw::tarziloen_book_open(n, w, start, room, values, count) })
+        .map(|values| values[0] as usize)
 }
 
 /// Grants a circuit between two nodes, by way 0 (plain) or 1 (seam); gives its serial and the length of the new form.
 pub fn grant(
     buffer: &mut [u8],
     length: usize,
-    ends: [u16; 2],
+    [x, y]: [u16; 2],
     way: u16,
     colour: u16,
 ) -> Result<(u16, usize), Refusal> {
-    let mut values = [0u16; 4];
+    let (start, room) = (buffer.as_mut_ptr(), buffer.len());
     // SAFETY: as in `open`; the library compares `length` with the buffer's own length.
-    let number = unsafe {
-        raw::tarziloen_book_grant(
-            buffer.as_mut_ptr(),
-            buffer.len(),
-            length,
-            ends[0],
-            ends[1],
-            way,
-            colour,
-            values.as_mut_ptr(),
-            values.len(),
-        )
-    };
-    outcome(number, values).map(|values| (values[0], values[1] as usize))
+    answered(|values, count| unsafe {
+        raw::tarziloen_book_grant(start, room, length, x, y, way, colour, values, count)
+    })
+    .map(|values| (values[0], values[1] as usize))
 }
 
 /// Removes the circuit of a serial; gives the length of the new form.
 pub fn remove(buffer: &mut [u8], length: usize, serial: u16) -> Result<usize, Refusal> {
-    let mut values = [0u16; 4];
+    let (start, room) = (buffer.as_mut_ptr(), buffer.len());
     // SAFETY: as in `grant`.
-    let number = unsafe {
-        raw::tarziloen_book_remove(
-            buffer.as_mut_ptr(),
-            buffer.len(),
-            length,
-            serial,
-            values.as_mut_ptr(),
-            values.len(),
-        )
-    };
-    outcome(number, values).map(|values| values[0] as usize)
+    answered(|values, count| unsafe {
+        raw::tarziloen_book_remove(start, room, length, serial, values, count)
+    })
+    .map(|values| values[0] as usize)
 }
 
 /// Shows the circuit of a serial in the book of a stored form.
 pub fn show(bytes: &[u8], serial: u16) -> Result<Circuit, Refusal> {
-    let mut values = [0u16; 4];
     // SAFETY: as in `open`.
-    let number = unsafe {
-        raw::tarziloen_book_show(
-            bytes.as_ptr(),
-            bytes.len(),
-            serial,
-            values.as_mut_ptr(),
-            values.len(),
-        )
-    };
-    outcome(number, values).map(|[a, b, way, colour]| Circuit {
+    answered(|values, count| unsafe {
+        raw::tarziloen_book_show(bytes.as_ptr(), bytes.len(), serial, values, count)
+    })
+    .map(|[a, b, way, colour]| Circuit {
         a,
         b,
         way: if way == 0 { Way::Plain } else { Way::Seam },
@@ -96,17 +56,9 @@ pub fn show(bytes: &[u8], serial: u16) -> Result<Circuit, Refusal> {
 
 /// The serial of the circuit that holds a colour on a link in the book of a stored form, or none.
 pub fn holder(bytes: &[u8], link: u16, colour: u16) -> Result<Option<u16>, Refusal> {
-    let mut values = [0u16; 4];
     // SAFETY: as in `open`.
-    let number = unsafe {
-        raw::tarziloen_book_holder(
-            bytes.as_ptr(),
-            bytes.len(),
-            link,
-            colour,
-            values.as_mut_ptr(),
-            values.len(),
-        )
-    };
-    outcome(number, values).map(|values| Some(values[0]).filter(|&serial| serial != 0))
+    answered(|values, count| unsafe {
+        raw::tarziloen_book_holder(bytes.as_ptr(), bytes.len(), link, colour, values, count)
+    })
+    .map(|values| Some(values[0]).filter(|&serial| serial != 0))
 }

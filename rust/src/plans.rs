@@ -1,5 +1,6 @@
 //! Plan and check.
 
+use crate::refusals::answered;
 use crate::{raw, Refusal};
 
 /// The part that a plan is.
@@ -20,54 +21,27 @@ pub struct Summary {
 
 /// Plans the requests, two ends each: the fate number of each goes into the first entries of the table.
 pub fn plan(n: u16, w: u16, ends: &[u16], table: &mut [u16]) -> Result<Summary, Refusal> {
-    let mut values = [0u16; 4];
+    let (list, given) = (ends.as_ptr(), ends.len());
+    let (entries, room) = (table.as_mut_ptr(), table.len());
     // SAFETY: each pointer comes with the length of the slice that it points to, and the library stays within them.
-    let number = unsafe {
-        raw::tarziloen_plan(
-            n,
-            w,
-            ends.as_ptr(),
-            ends.len(),
-            table.as_mut_ptr(),
-            table.len(),
-            values.as_mut_ptr(),
-            values.len(),
-        )
-    };
-    if number != 0 {
-        return Err(Refusal::new(number, values));
-    }
-    let used = if values[3] == 0 {
-        Part::Chain
-    } else {
-        Part::Pair
-    };
-    Ok(Summary {
-        chain: values[0],
-        matched: values[1],
-        paired: values[2],
-        used,
+    answered(|values, count| unsafe {
+        raw::tarziloen_plan(n, w, list, given, entries, room, values, count)
+    })
+    .map(|[chain, matched, paired, used]| Summary {
+        chain,
+        matched,
+        paired,
+        used: if used == 0 { Part::Chain } else { Part::Pair },
     })
 }
 
 /// Checks a table of fate numbers for the requests; gives the number of requests that it serves.
 pub fn check(n: u16, w: u16, ends: &[u16], table: &[u16]) -> Result<u16, Refusal> {
-    let mut values = [0u16; 4];
+    let (list, given) = (ends.as_ptr(), ends.len());
+    let (entries, room) = (table.as_ptr(), table.len());
     // SAFETY: as in `plan`.
-    let number = unsafe {
-        raw::tarziloen_check(
-            n,
-            w,
-            ends.as_ptr(),
-            ends.len(),
-            table.as_ptr(),
-            table.len(),
-            values.as_mut_ptr(),
-            values.len(),
-        )
-    };
-    if number != 0 {
-        return Err(Refusal::new(number, values));
-    }
-    Ok(values[0])
+    answered(|values, count| unsafe {
+        raw::tarziloen_check(n, w, list, given, entries, room, values, count)
+    })
+    .map(|[served, ..]| served)
 }

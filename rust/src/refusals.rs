@@ -11,14 +11,6 @@ pub struct Refusal {
 }
 
 impl Refusal {
-    /// The refusal of a result that is not 0. A ground that carries less than two numbers leaves zeros.
-    pub(crate) fn new(number: u16, values: [u16; 4]) -> Self {
-        Refusal {
-            number,
-            values: [values[0], values[1]],
-        }
-    }
-
     /// The ground, in the words of the rules.
     pub fn ground(self) -> &'static str {
         match self.number {
@@ -55,6 +47,19 @@ impl fmt::Display for Refusal {
 }
 
 impl Error for Refusal {}
+
+/// What a call of the library gives, which writes its values to the place that it is handed: the values
+/// after result 0, else the refusal. A ground that carries less than two numbers leaves zeros.
+pub(crate) fn answered(call: impl FnOnce(*mut u16, usize) -> u16) -> Result<[u16; 4], Refusal> {
+    let mut values = [0u16; 4];
+    match call(values.as_mut_ptr(), values.len()) {
+        0 => Ok(values),
+        number => Err(Refusal {
+            number,
+            values: [values[0], values[1]],
+        }),
+    }
+}
 
 #[cfg(test)]
 mod tests {

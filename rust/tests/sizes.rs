@@ -1,7 +1,7 @@
 //! The sizes that program `sizes` writes, computed by another algorithm on the same lists.
 mod reference;
 
-use reference::{crossing, match_count, requests};
+use reference::{compatible_lists, match_count, requests};
 
 /// A list of ends, with what the program writes in front of its size.
 struct List {
@@ -191,13 +191,7 @@ fn cycles_are_hard() {
     for list in cycles() {
         let requests = requests(&list.ends);
         let m = requests.len();
-        let adjacent: Vec<Vec<usize>> = (0..m)
-            .map(|i| {
-                (0..m)
-                    .filter(|&j| i != j && !crossing(requests[i], requests[j]))
-                    .collect()
-            })
-            .collect();
+        let adjacent = compatible_lists(&requests);
         let best = match_count(&requests);
         let mut mate = first_come(&adjacent);
         assert!(pair_count(&mate) < best, "{}", list.name);

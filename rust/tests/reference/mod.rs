@@ -50,22 +50,27 @@ pub fn chain_count(w: usize, requests: &[(u16, u16)]) -> usize {
     requests.len() - dropped
 }
 
-pub fn crossing(r: (u16, u16), s: (u16, u16)) -> bool {
+fn crossing(r: (u16, u16), s: (u16, u16)) -> bool {
     let strictly_inside = |x: u16| r.0 < x && x < r.1;
     let shares = r.0 == s.0 || r.0 == s.1 || r.1 == s.0 || r.1 == s.1;
     !shares && strictly_inside(s.0) != strictly_inside(s.1)
 }
 
+/// For each request the other requests that it is compatible with.
+pub fn compatible_lists(requests: &[(u16, u16)]) -> Vec<Vec<usize>> {
+    let compatible = |i: usize, j: usize| i != j && !crossing(requests[i], requests[j]);
+    let others = |i| {
+        (0..requests.len())
+            .filter(move |&j| compatible(i, j))
+            .collect()
+    };
+    (0..requests.len()).map(others).collect()
+}
+
 /// The size of a maximum matching, by Edmonds's algorithm with contracted blossoms.
 pub fn match_count(requests: &[(u16, u16)]) -> usize {
     let m = requests.len();
-    let edges: Vec<Vec<usize>> = (0..m)
-        .map(|i| {
-            (0..m)
-                .filter(|&j| i != j && !crossing(requests[i], requests[j]))
-                .collect()
-        })
-        .collect();
+    let edges = compatible_lists(requests);
     let mut mate = vec![usize::MAX; m];
     for root in 0..m {
         if mate[root] == usize::MAX {
