@@ -10,12 +10,12 @@ use Rattle.ring.specs.declared.rings.RingAnswer.the-variants as ring-answer
 use Rattle.ring.specs.declared.refusals.Refusal.{Refusal}
 use Rattle.ring.specs.declared.refusals.Verdict.{Verdict}
 use Rattle.ring.specs.declared.refusals.Verdict.the-variants.{Allowed, Refused}
-use Rattle.ring.specs.Requests.{requestsOf}
+use Rattle.ring.specs.Requests.{requestsOf, ValidRequests}
 use Rattle.ring.specs.Ways.{sharing}
 use Rattle.ring.specs.Plans.{fatesOf, served}
 use Rattle.ring.specs.Admission.{callVerdict, ringUnless, callAnswer}
 use Rattle.ring.proofs.Cases.{impossible}
-use Rattle.ring.proofs.RequestLaws.{requests-length}
+use Rattle.ring.proofs.RequestLaws.{requests-length, valid-on-256}
 use Rattle.ring.proofs.AdmissionLaws.{CallLimits, made-allowed, made-limits}
 use Rattle.checker.specs.declared.CheckAnswer.the-variants as answer
 use Rattle.checker.specs.Check.{SharingTest, numberVerdicts, pairVerdicts, tableAnswer, numbersIn, checkAnswer}
@@ -55,11 +55,12 @@ module _ (n w : ℕ) (ends table : List ℕ) where
     pub numbers-length : length (take (length ends / 2) table) ≡ length ends / 2
     numbers-length = omega (arith, length-take (length ends / 2) table, limits .table, requests-length ends)
 
-    pub numbers-fit : (w ≤ 128) × (length ends ≡ 2 * length (take (length ends / 2) table)) × (length (take (length ends / 2) table) ≤ 512)
+    pub numbers-fit : (w ≤ 128) × (length ends ≡ 2 * length (take (length ends / 2) table)) × (length (take (length ends / 2) table) ≤ 512) × ValidRequests 256 (requestsOf ends)
     numbers-fit = (
       limits .ring .colours-to,
       omega (arith, numbers-length, limits .list .even, requests-length ends),
       omega (arith, numbers-length, limits .list .valid .few, requests-length ends),
+      valid-on-256 n (requestsOf ends) (limits .ring .nodes-to) (limits .list .valid),
     )
 
     -- and gets their answer

@@ -2,6 +2,7 @@
 pub mod GroundLaws
 pub mod NumberLaws
 pub mod ConflictLaws
+pub mod PlacingLaws
 pub mod AnswerLaws
 pub mod FaultLaws
 pub mod DecisionLaws

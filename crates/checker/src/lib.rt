@@ -1,4 +1,5 @@
 // The check of a plan: whether fate numbers are a feasible plan for a list of requests, and how many it serves.
+use links::hold;
 use ring::Fate;
 use ring::Refusal;
 use ring::Request;
@@ -10,13 +11,17 @@ use ring::requests::request_at;
 use ring::rings::RingAnswer;
 use ring::ways::ways_share;
 ghost use mathlib.Core.Path.{_≡_};
-ghost use Prim.Native.Nat.{_+_, _*_, _≤_, _<_};
+ghost use mathlib.Core.Bool.{true};
+ghost use Prim.Native.Nat.{ℕ, _+_, _*_, _≤_, _<_};
 ghost use lib.ListN.{length, getD};
 ghost use Rattle.ring.specs.declared.fates.Fate.the-variants.{Served};
-ghost use Rattle.ring.specs.Requests.{requestsOf, request};
+ghost use Rattle.ring.specs.declared.refusals.Verdict.the-variants.{Allowed};
+ghost use Rattle.ring.specs.Requests.{requestsOf, request, ValidRequests};
 ghost use Rattle.ring.specs.Ways.{sharing};
 ghost use Rattle.ring.specs.Fates.{fateOf};
 ghost use Rattle.ring.specs.Plans.{fatesOf, served};
+ghost use Rattle.links.specs.Links.{Rows};
+ghost use Rattle.checker.specs.Placing.{Placing};
 ghost use Rattle.checker.specs.Check.{numberVerdicts, conflicting, laterVerdict, pairVerdicts, tableAnswer, checkAnswer};
 
 pub enum CheckAnswer {
@@ -92,6 +97,47 @@ fn pair_verdict(ends: &[u16], numbers: &[u16]) -> Verdict
     Verdict::Allowed
 }
 
+// Whether a request finds the links of its way free in its colour; it holds them from then on.
+fn place(held: &mut [[u64; 4]], number: u16, request: Request) -> bool
+    requires { ⌜ Rows (now held) × (request .a < request .b) × (request .b < 256) × (number ≤ 256) ⌝ }
+    ensures { λ r. ⌜ Placing (now (held .entry)) (now (held .exit)) (fateOf number) request r ⌝ }
+{
+    let fate = fate_of(number);
+    let Fate::Served(way, colour) = fate else {
+        return true;
+    };
+    hold(held, way, request, colour as usize)
+}
+
+// Whether each request finds its links free. Then no pair is in conflict.
+fn disjoint(ends: &[u16], numbers: &[u16]) -> bool
+    requires { ⌜ (length (now ends) ≡ 2 * length (now numbers)) × ValidRequests 256 (requestsOf (now ends)) × ((i : ℕ) → i < length (now numbers) → getD (now numbers) i 0 ≤ 256) ⌝ }
+    ensures { λ r. ⌜ (r ≡ true → pairVerdicts sharing (requestsOf (now (ends .entry))) (fatesOf (now (numbers .entry))) ≡ Allowed) ⌝ }
+{
+    let none = [0u64; 4];
+    let mut held = [none; 128];
+    let mut i: usize = 0;
+    while i < numbers.len() {
+        let free = place(&mut held, numbers[i], request_at(ends, i));
+        if !free {
+            return false;
+        }
+        i += 1;
+    }
+    true
+}
+
+// 8: the pairs are searched only where some request does not find its links free.
+fn conflict_verdict(ends: &[u16], numbers: &[u16]) -> Verdict
+    requires { ⌜ (length (now ends) ≡ 2 * length (now numbers)) × (length (now numbers) ≤ 512) × ValidRequests 256 (requestsOf (now ends)) × ((i : ℕ) → i < length (now numbers) → getD (now numbers) i 0 ≤ 256) ⌝ }
+    ensures { λ r. ⌜ r ≡ pairVerdicts sharing (requestsOf (now (ends .entry))) (fatesOf (now (numbers .entry))) ⌝ }
+{
+    if disjoint(ends, numbers) {
+        return Verdict::Allowed;
+    }
+    pair_verdict(ends, numbers)
+}
+
 // How many requests are not blocked.
 fn served_count(numbers: &[u16]) -> u16
     requires { ⌜ length (now numbers) ≤ 512 ⌝ }
@@ -110,14 +156,14 @@ fn served_count(numbers: &[u16]) -> u16
 
 // 7, then 8, then the number served.
 fn table_answer(w: u16, ends: &[u16], numbers: &[u16]) -> CheckAnswer
-    requires { ⌜ (w ≤ 128) × (length (now ends) ≡ 2 * length (now numbers)) × (length (now numbers) ≤ 512) ⌝ }
+    requires { ⌜ (w ≤ 128) × (length (now ends) ≡ 2 * length (now numbers)) × (length (now numbers) ≤ 512) × ValidRequests 256 (requestsOf (now ends)) ⌝ }
     ensures { λ r. ⌜ r ≡ tableAnswer sharing w (requestsOf (now (ends .entry))) (now (numbers .entry)) ⌝ }
 {
     let above = number_verdict(w, numbers);
     if let Verdict::Refused(refusal) = above {
         return CheckAnswer::Refused(refusal);
     }
-    let conflict = pair_verdict(ends, numbers);
+    let conflict = conflict_verdict(ends, numbers);
     if let Verdict::Refused(refusal) = conflict {
         return CheckAnswer::Refused(refusal);
     }

@@ -21,7 +21,7 @@ pub record Rest (words : List ℕ) (from k word : ℕ) : Type 0 where
   pub dropped : (z : ℕ) → z / 64 ≡ k → z < from → on word (z % 64) ≡ false
 
 -- all 64 digits shifted up by j, in 64 digits
-on-mask : (j k : ℕ) → k < 64 → on ((2 ^ 64 - 1) * 2 ^ j % 2 ^ 64) k ≡ leb j k
+pub on-mask : (j k : ℕ) → k < 64 → on ((2 ^ 64 - 1) * 2 ^ j % 2 ^ 64) k ≡ leb j k
 on-mask j k h = ap (λ (d : ℕ). eqb d 1) (bit-mod 64 ((2 ^ 64 - 1) * 2 ^ j) k h) ∙ on-ones 64 j k h
 
 module _ (words : List ℕ) (from : ℕ) where

@@ -2,7 +2,7 @@
 use Prim.Native.Nat.{ℕ, zero, suc, _-_, _*_, _/_, _%_, _^_, _<_}
 use mathlib.Core.Path.{_≡_, refl, ap, _∙_}
 use mathlib.Core.Bool.{false, cond, _&&_, _||_, or-comm}
-use mathlib.Core.List.{List}
+use mathlib.Core.List.{List, []}
 use native.Mathlib.Decide.{ℕ-discrete}
 use native.Mathlib.Omega.{arith}
 use lib.Dec.{eqb}
@@ -20,9 +20,13 @@ zeros zero i = refl
 zeros (suc n) zero = refl
 zeros (suc n) (suc i) = zeros n i
 
-pub has-none : (y : ℕ) → has (replicate 8 0) y ≡ false
+-- in any number of words
+pub has-zeros : (n y : ℕ) → has (replicate n 0) y ≡ false
 unfolding has
-has-none y = ap (λ (w : ℕ). on w (y % 64)) (zeros 8 (y / 64)) ∙ ap (λ (d : ℕ). eqb d 1) (bit-zero (y % 64))
+has-zeros n y = ap (λ (w : ℕ). on w (y % 64)) (zeros n (y / 64)) ∙ ap (λ (d : ℕ). eqb d 1) (bit-zero (y % 64))
+
+pub has-none : (y : ℕ) → has (replicate 8 0) y ≡ false
+has-none y = has-zeros 8 y
 
 -- ---- one word is changed
 
@@ -73,3 +77,18 @@ module _ (words : List ℕ) (z : ℕ) (h : z / 64 < length words) (y : ℕ) wher
         )
         | no n ↦ cc (ne-eqb (y / 64) (z / 64) n, number-test y z)
       ]
+
+-- ---- one of several sets is changed
+
+module _ (sets : List (List ℕ)) (x : ℕ) (row : List ℕ) (h : x < length sets) (y : ℕ) where
+  pub has-row : (j : ℕ) → has (getD (set sets x row) y []) j ≡ cond (eqb y x) (has row j) (has (getD sets y []) j)
+  has-row j = elim (ℕ-discrete y x) [
+    | yes e ↦ ap (λ (i : ℕ). has (getD (set sets x row) i []) j) e ∙ ap (λ (l : List ℕ). has l j) (getD-set-same sets x row [] h) ∙ cc (eq-eqb y x e)
+    | no n ↦ ap (λ (l : List ℕ). has l j) (getD-set-other sets x y row [] n) ∙ cc (ne-eqb y x n)
+  ]
+
+  pub row-length : (n : ℕ) → length row ≡ n → length (getD sets y []) ≡ n → length (getD (set sets x row) y []) ≡ n
+  row-length n e f = elim (ℕ-discrete y x) [
+    | yes p ↦ ap (λ (i : ℕ). length (getD (set sets x row) i [])) p ∙ ap length (getD-set-same sets x row [] h) ∙ e
+    | no d ↦ ap length (getD-set-other sets x y row [] d) ∙ f
+  ]

@@ -1,58 +1,135 @@
 -- The tests for a valid book, as a walk over its circuits sees them.
-use Prim.Native.Nat.{ℕ, _+_, _<_}
+use Prim.Native.Nat.{ℕ, _+_, _<_, _≤_}
 use mathlib.Core.Path.{_≡_, refl, sym, _∙_, ap}
-use mathlib.Core.Bool.{Bool, true, false, not, _&&_, _||_}
+use mathlib.Core.Bool.{Bool, true, false, _&&_, _||_, or-false}
 use mathlib.Core.List.{List, [], _∷_, _++_}
 use native.Mathlib.Numerals.{add-one}
+use native.Mathlib.Omega.{arith}
+use borrow.Author.Tests.{ltb-true, leb-true}
+use lib.Dec.{leb}
 use lib.ListN.{length, take}
-use lib.Seq.{take-suc}
-use Rattle.ring.specs.declared.requests.Request.{Request}
-use Rattle.ring.specs.declared.ways.Way.{Way}
+use lib.Seq.{take-suc, length-take-le}
+use Rattle.ring.proofs.Cases.{yes, no, is}
+use Rattle.links.specs.Links.{none, Placed, Held}
+use Rattle.links.proofs.RowLaws.{Holding, holding-none, holding-more, holding-free}
 use Rattle.book.specs.declared.circuits.Circuit.{Circuit}
 use Rattle.book.specs.declared.books.Book.{Book}
-use Rattle.book.specs.Circuits.{vacant, circuit, someCircuit, endsOf}
+use Rattle.book.specs.Circuits.{vacant, circuit, someCircuit, endsOf, holds}
 use Rattle.book.specs.Books.{liveOf}
-use Rattle.book.specs.Conflicts.{conflicts, conflictIn}
-use Rattle.stored.specs.Validity.{circuitFits, serialFits, mayFollow, lastSerial, circuitsFit}
+use Rattle.book.specs.Grants.{heldIn}
+use Rattle.book.proofs.ConflictLaws.{and-true, true-and, conflict-held}
+use Rattle.stored.specs.Validity.{ringFits, circuitFits, serialFits, mayFollow, lastSerial, circuitsFit, bookFits}
+use Rattle.stored.specs.Following.{Follows}
+use Rattle.stored.proofs.Joins.{never, contrary}
+use Rattle.stored.proofs.Fitting.{Following, earlier, each-follows, following}
+
+-- ---- one circuit
+
+-- the limits, read back
+pub ring-within : (n w : ℕ) → ringFits n w ≡ true → (n ≤ 256) × (w ≤ 128)
+unfolding ringFits
+ring-within n w e =
+    let s = and-true _ _ e in
+    let nodes = and-true (leb 3 n) (leb n 256) (s .0) in
+    let colours = and-true (leb 1 w) (leb w 128) (s .1) in
+    (leb-true n 256 (nodes .1), leb-true w 128 (colours .1))
+
+pub fits-placed : (n w : ℕ) (c : Circuit) (serial : Bool) → n ≤ 256 → w ≤ 128 → (circuitFits n w c && serial) ≡ true → Placed (endsOf c) (c .colour)
+unfolding circuitFits
+fits-placed n w c serial h k e =
+    let t = and-true _ _ e in
+    let f = and-true _ _ (t .0) in
+    let p = and-true _ _ (f .0) in
+    let last : c .b < n = ltb-true _ _ (p .1) in
+    let colour : c .colour < w = ltb-true _ _ (f .1) in
+    record { ordered = ltb-true _ _ (p .0); nodes = omega arith; colours = omega arith }
+
+pub follows-not : (rows : List (List ℕ)) (fits : Bool) (c : Circuit) → fits ≡ false → Follows rows rows fits c false
+follows-not rows fits c e = record { refused = λ f. refl; holding = λ f. contrary f e }
+
+pub follows-so : (rows after : List (List ℕ)) (fits : Bool) (c : Circuit) (follows : Bool) → fits ≡ true → Held rows after (c .way) (endsOf c) (c .colour) follows → Follows rows after fits c follows
+follows-so rows after fits c follows e h = record { refused = λ f. contrary e f; holding = λ f. h }
+
+-- ---- one circuit more
 
 or-assoc : (p q r : Bool) → (p || (q || r)) ≡ ((p || q) || r)
 or-assoc true q r = refl
 or-assoc false q r = refl
-
-or-false : (p : Bool) → (p || false) ≡ p
-or-false true = refl
-or-false false = refl
 
 some-snoc : (cs : List Circuit) (c : Circuit) (p : Circuit → Bool) → someCircuit (cs ++ (c ∷ [])) p ≡ (someCircuit cs p || p c)
 unfolding someCircuit
 some-snoc [] c p = or-false (p c)
 some-snoc (x ∷ cs) c p = ap (λ (t : Bool). p x || t) (some-snoc cs c p) ∙ or-assoc (p x) (someCircuit cs p) (p c)
 
-pub held-next : (cs : List Circuit) (way : Way) (r : Request) (colour j : ℕ) (held one all : Bool) → j < length cs → held ≡ conflictIn (take j cs) way r colour → one ≡ conflicts (circuit cs j) way r colour → all ≡ (held || one)
-    → all ≡ conflictIn (take (j + 1) cs) way r colour
-unfolding conflictIn
-held-next cs way r colour j held one all h e f g =
-    g
-    ∙ ap (λ (t : Bool). t || one) e
-    ∙ ap (λ (t : Bool). someCircuit (take j cs) (λ c. conflicts c way r colour) || t) f
-    ∙ sym (ap (λ (k : ℕ). someCircuit (take k cs) (λ c. conflicts c way r colour)) (add-one j) ∙ ap (λ (l : List Circuit). someCircuit l (λ c. conflicts c way r colour)) (take-suc cs j vacant h) ∙ some-snoc (take j cs) (circuit cs j) (λ c. conflicts c way r colour))
+held-next : (cs : List Circuit) (i link colour : ℕ) → i < length cs → heldIn (take (i + 1) cs) link colour ≡ (heldIn (take i cs) link colour || holds (circuit cs i) link colour)
+unfolding heldIn
+held-next cs i link colour h =
+    ap (λ (k : ℕ). someCircuit (take k cs) (λ c. holds c link colour)) (add-one i)
+    ∙ ap (λ (l : List Circuit). someCircuit l (λ c. holds c link colour)) (take-suc cs i vacant h)
+    ∙ some-snoc (take i cs) (circuit cs i) (λ c. holds c link colour)
 
-pub none-held : (cs : List Circuit) (way : Way) (r : Request) (colour : ℕ) → false ≡ conflictIn (take 0 cs) way r colour
-unfolding conflictIn someCircuit
-none-held cs way r colour = refl
+-- ---- the circuits below i may follow, and hold their links
 
-pub fits-next : (b : Book) (i last : ℕ) (c : Circuit) (fits held one all : Bool) → fits ≡ circuitsFit b i → c ≡ circuit (liveOf b) i → held ≡ conflictIn (take i (liveOf b)) (c .way) (endsOf c) (c .colour) → last ≡ lastSerial (liveOf b) i
-    → one ≡ ((circuitFits (b .n) (b .w) c && serialFits last (b .grants) (c .serial)) && not held) → all ≡ (fits && one) → all ≡ circuitsFit b (i + 1)
-unfolding mayFollow
-fits-next b i last c fits held one all e f g l m h =
-    h
-    ∙ ap (λ (t : Bool). t && one) e
-    ∙ ap (λ (t : Bool). circuitsFit b i && t)
-    (m
-    ∙ ap (λ (t : Bool). (circuitFits (b .n) (b .w) c && serialFits last (b .grants) (c .serial)) && not t) g
-    ∙ ap (λ (k : ℕ). mayFollow b (take i (liveOf b)) k c) l
-    ∙ ap (λ (x : Circuit). mayFollow b (take i (liveOf b)) (lastSerial (liveOf b) i) x) f)
-    ∙ ap (circuitsFit b) (sym (add-one i))
+pub record Walk (b : Book) (rows : List (List ℕ)) (last i : ℕ) : Type 0 where
+  pub fits : circuitsFit b i ≡ true
+  pub serial : last ≡ lastSerial (liveOf b) i
+  pub holding : Holding rows (λ colour link. heldIn (take i (liveOf b)) link colour)
 
-pub last-next : (cs : List Circuit) (i : ℕ) (c : Circuit) → c ≡ circuit cs i → c .serial ≡ lastSerial cs (i + 1)
-last-next cs i c e = ap (λ (x : Circuit). x .serial) e ∙ ap (lastSerial cs) (sym (add-one i))
+pub walk-start : (b : Book) → Walk b none 0 0
+unfolding heldIn someCircuit
+walk-start b = record { fits = refl; serial = refl; holding = holding-none (λ colour link. heldIn (take 0 (liveOf b)) link colour) (λ colour link. refl) }
+
+module _ (b : Book) (rows after : List (List ℕ)) (last i : ℕ) (c : Circuit) (follows : Bool) (ring : ringFits (b .n) (b .w) ≡ true) (h : i < length (liveOf b)) (s : Walk b rows last i)
+    (at : c ≡ circuit (liveOf b) i) (test : Follows rows after (circuitFits (b .n) (b .w) c && serialFits last (b .grants) (c .serial)) c follows) where
+  abbrev cs : List Circuit
+  cs = liveOf b
+
+  ends : (j : ℕ) → j < length (take i cs) → (circuit (take i cs) j .a < circuit (take i cs) j .b) × (circuit (take i cs) j .b < 256)
+  ends j l =
+      let few : j < i = omega (arith, length-take-le i cs (omega arith)) in
+      let f : Following b j = following b j (each-follows b i (s .fits) j few) in
+      rw (earlier b i j few) (f .ordered, omega (arith, f .nodes, ring-within (b .n) (b .w) ring))
+
+  found : follows ≡ mayFollow b (take i cs) last c
+  unfolding mayFollow
+  found = elim (is (circuitFits (b .n) (b .w) c && serialFits last (b .grants) (c .serial))) [
+    | yes e ↦
+        let limits = ring-within (b .n) (b .w) ring in
+        let p = fits-placed (b .n) (b .w) c (serialFits last (b .grants) (c .serial)) (limits .0) (limits .1) e in
+        cc (
+          holding-free rows after (c .way) (endsOf c) (c .colour) follows (test .holding e) (λ colour link. heldIn (take i cs) link colour) (s .holding) (p .colours),
+          conflict-held 256 (take i cs) ends (c .way) (endsOf c) (c .colour) (p .ordered) (p .nodes),
+        )
+    | no e ↦ cc (test .refused e)
+  ]
+
+  found-here : follows ≡ mayFollow b (take i cs) (lastSerial cs i) (circuit cs i)
+  found-here = found ∙ ap (λ (k : ℕ). mayFollow b (take i cs) k c) (s .serial) ∙ ap (λ (x : Circuit). mayFollow b (take i cs) (lastSerial cs i) x) at
+
+  fitting : follows ≡ true → (circuitFits (b .n) (b .w) c && serialFits last (b .grants) (c .serial)) ≡ true
+  fitting e = elim (is (circuitFits (b .n) (b .w) c && serialFits last (b .grants) (c .serial))) [
+    | yes f ↦ f
+    | no f ↦ contrary e (test .refused f)
+  ]
+
+  pub walk-turn : follows ≡ true → Walk b after (c .serial) (i + 1)
+  unfolding mayFollow holds
+  walk-turn e = record {
+    fits = ap (circuitsFit b) (add-one i) ∙ true-and _ _ (s .fits) (sym found-here ∙ e);
+    serial = ap (λ (x : Circuit). x .serial) at ∙ ap (lastSerial cs) (sym (add-one i));
+    holding = holding-more rows after (c .way) (endsOf c) (c .colour) follows (test .holding (fitting e)) (λ colour link. heldIn (take i cs) link colour) (λ colour link. heldIn (take (i + 1) cs) link colour) (s .holding)
+        (λ colour link. held-next cs i link colour h ∙ cc);
+  }
+
+  pub walk-stop : follows ≡ false → false ≡ circuitsFit b (length cs)
+  walk-stop e = sym (never (circuitsFit b (length cs)) (λ f. contrary (found-here ∙ each-follows b (length cs) f i h) e))
+
+-- ---- the whole book
+
+pub no-ring : (b : Book) → ringFits (b .n) (b .w) ≡ false → false ≡ bookFits b
+unfolding bookFits
+no-ring b e = cc
+
+pub circuits-left : (b : Book) → ringFits (b .n) (b .w) ≡ true → circuitsFit b (length (liveOf b)) ≡ bookFits b
+unfolding bookFits
+circuits-left b e = cc

@@ -26,7 +26,7 @@ module _ (b : Book) where
   abbrev at : ℕ → Circuit
   at i = circuit (liveOf b) i
 
-  earlier : (i j : ℕ) → j < i → circuit (take i cs) j ≡ at j
+  pub earlier : (i j : ℕ) → j < i → circuit (take i cs) j ≡ at j
   earlier i j h = getD-take i cs j vacant h
 
   -- a valid book passes
@@ -71,7 +71,7 @@ module _ (b : Book) where
         (all-follow (length cs) (omega arith))
 
   -- what passes is valid
-  each-follows : (m : ℕ) → circuitsFit b m ≡ true → (i : ℕ) → i < m → mayFollow b (take i cs) (lastSerial cs i) (at i) ≡ true
+  pub each-follows : (m : ℕ) → circuitsFit b m ≡ true → (i : ℕ) → i < m → mayFollow b (take i cs) (lastSerial cs i) (at i) ≡ true
   each-follows zero e i h = absurd (omega arith)
   each-follows (suc m) e i h =
       let s = and-true (circuitsFit b m) (mayFollow b (take m cs) (lastSerial cs m) (at m)) e in
@@ -90,7 +90,7 @@ module _ (b : Book) where
     pub given : at i .serial ≤ b .grants
     pub free : conflictIn (take i cs) (at i .way) (endsOf (at i)) (at i .colour) ≡ false
 
-  following : (i : ℕ) → mayFollow b (take i cs) (lastSerial cs i) (at i) ≡ true → Following i
+  pub following : (i : ℕ) → mayFollow b (take i cs) (lastSerial cs i) (at i) ≡ true → Following i
   unfolding mayFollow circuitFits serialFits
   following i e =
       let s = and-true _ _ e in

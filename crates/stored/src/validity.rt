@@ -1,19 +1,19 @@
 // The tests for a valid book.
 use super::flags::both;
-use super::flags::either;
 use book::Book;
 use book::Circuit;
 use book::books::live_count;
+use links::hold;
 use ring::Request;
 use ring::Ring;
-use ring::ways::ways_share;
 ghost use mathlib.Core.Path.{_≡_};
-ghost use mathlib.Core.Bool.{_&&_, not};
+ghost use mathlib.Core.Bool.{true, _&&_};
+ghost use Prim.Native.Nat.{_≤_};
 ghost use lib.ListN.{length};
-ghost use Rattle.book.specs.Circuits.{endsOf};
 ghost use Rattle.book.specs.Books.{liveOf};
-ghost use Rattle.book.specs.Conflicts.{conflicts};
+ghost use Rattle.links.specs.Links.{Rows};
 ghost use Rattle.stored.specs.Validity.{ringFits, circuitFits, serialFits, circuitsFit, bookFits};
+ghost use Rattle.stored.specs.Following.{Follows};
 
 fn ring_fits(n: u16, w: u16) -> bool
     ensures { λ r. ⌜ r ≡ ringFits n w ⌝ }
@@ -36,67 +36,61 @@ fn serial_fits(last: u16, grants: u16, serial: u16) -> bool
     both(last < serial, serial <= grants)
 }
 
-// Whether two circuits are of one colour and share a link.
-fn conflict(earlier: Circuit, circuit: Circuit) -> bool
-    ensures { λ r. ⌜ r ≡ conflicts earlier (circuit .way) (endsOf circuit) (circuit .colour) ⌝ }
-{
-    let way = circuit.way;
-    let other = earlier.way;
-    let ends = Request {
-        a: circuit.a,
-        b: circuit.b,
-    };
-    let others = Request {
-        a: earlier.a,
-        b: earlier.b,
-    };
-    both(
-        earlier.colour == circuit.colour,
-        ways_share(way, ends, other, others),
-    )
-}
-
-// Whether a circuit may follow others, with one of which it is in conflict or not.
-fn may_follow(n: u16, w: u16, grants: u16, last: u16, circuit: Circuit, held: bool) -> bool
-    ensures { λ r. ⌜ r ≡ ((circuitFits n w circuit && serialFits last grants (circuit .serial)) && not held) ⌝ }
+// Whether a circuit may follow others: its limits, its serial, and that no link of its way is held in its colour. From then on it holds them.
+fn may_follow(
+    held: &mut [[u64; 4]],
+    n: u16,
+    w: u16,
+    grants: u16,
+    last: u16,
+    circuit: Circuit,
+) -> bool
+    requires { ⌜ Rows (now held) × (n ≤ 256) × (w ≤ 128) ⌝ }
+    ensures { λ r. ⌜ Follows (now (held .entry)) (now (held .exit)) (circuitFits n w circuit && serialFits last grants (circuit .serial)) circuit r ⌝ }
 {
     let fits = both(
         circuit_fits(n, w, circuit),
         serial_fits(last, grants, circuit.serial),
     );
-    both(fits, !held)
+    if !fits {
+        return false;
+    }
+    let way = circuit.way;
+    let ends = Request {
+        a: circuit.a,
+        b: circuit.b,
+    };
+    hold(held, way, ends, circuit.colour as usize)
 }
 
-// Whether each live circuit may follow those before it. Both loops stand in one function: an inner one would be handed the book for each circuit.
+// Whether each live circuit may follow those before it. `may_follow` is handed numbers: the book would be copied for each circuit.
 fn circuits_fit(book: Book) -> bool
+    requires { ⌜ ringFits (book .n) (book .w) ≡ true ⌝ }
     ensures { λ r. ⌜ r ≡ circuitsFit book (length (liveOf book)) ⌝ }
 {
     let live = live_count(book);
-    let mut fits = true;
+    let none = [0u64; 4];
+    let mut held = [none; 128];
     let mut last: u16 = 0;
     let mut i: usize = 0;
     while i < live {
         let circuit = book.places[i];
-        let mut held = false;
-        let mut j: usize = 0;
-        while j < i {
-            let earlier = book.places[j];
-            held = either(held, conflict(earlier, circuit));
-            j += 1;
+        let follows = may_follow(&mut held, book.n, book.w, book.grants, last, circuit);
+        if !follows {
+            return false;
         }
-        fits = both(
-            fits,
-            may_follow(book.n, book.w, book.grants, last, circuit, held),
-        );
         last = circuit.serial;
         i += 1;
     }
-    fits
+    true
 }
 
 // Whether a book is within the limits, its serials rise, and no two circuits share a colour on a link.
 pub fn book_fits(book: Book) -> bool
     ensures { λ r. ⌜ r ≡ bookFits book ⌝ }
 {
-    both(ring_fits(book.n, book.w), circuits_fit(book))
+    if !ring_fits(book.n, book.w) {
+        return false;
+    }
+    circuits_fit(book)
 }

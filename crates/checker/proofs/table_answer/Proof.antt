@@ -1,4 +1,6 @@
 use mathlib.Core.Path.{sym, _∙_}
+use native.Mathlib.Omega.{arith}
+use Rattle.checker.proofs.FaultLaws.{numbers-within}
 use Rattle.checker.proofs.AnswerLaws.{number-refused, pairs-refused, passed}
 use borrow.Author.Needs.{needs}
 use Rattle.checker.proofs.table_answer.Statement.{statement}
@@ -18,8 +20,12 @@ returns c =
 enum-told : tie.Need-enum-told
 enum-told c = search needs
 
-pair-verdict-requires : tie.Need-pair-verdict-requires
-pair-verdict-requires c κs = search needs
+conflict-verdict-requires : tie.Need-conflict-verdict-requires
+conflict-verdict-requires c κs =
+    let numbers = c .before .before in
+    let s = numbers .before .before .before in
+    let few = numbers-within (s .args .w) (s .args .numbers .now) (sym (numbers .number-verdict .ensures) ∙ c .enum-told .given .1) in
+    (s .pre .1, s .pre .2, s .pre .3, λ i h. omega (arith, few i h, s .pre .0))
 
 enum-known-conflict : tie.Need-enum-known-conflict
 enum-known-conflict c = search needs
@@ -30,7 +36,7 @@ returns-2 c =
     let numbers = pairs .before .before .before in
     pairs-refused _ _ _ _ _
     (sym (numbers .number-verdict .ensures) ∙ pairs .before .enum-told .given .1)
-    (sym (pairs .pair-verdict .ensures) ∙ c .before .conflict .given .1)
+    (sym (pairs .conflict-verdict .ensures) ∙ c .before .conflict .given .1)
 
 enum-told-2 : tie.Need-enum-told-2
 enum-told-2 c = search needs
@@ -44,7 +50,7 @@ returns-3 c =
     let numbers = pairs .before .before .before in
     passed _ _ _ _ _
     (sym (numbers .number-verdict .ensures) ∙ pairs .before .enum-told .given .1)
-    (sym (pairs .pair-verdict .ensures) ∙ c .before .enum-told2 .given .1)
+    (sym (pairs .conflict-verdict .ensures) ∙ c .before .enum-told2 .given .1)
     (c .served-count .ensures)
 
 pub table-answer-spec : {M : Type 1} → statement M
@@ -55,7 +61,7 @@ table-answer-spec =
     enum-known-above
     returns
     enum-told
-    pair-verdict-requires
+    conflict-verdict-requires
     enum-known-conflict
     returns-2
     enum-told-2

@@ -1,6 +1,8 @@
-use mathlib.Core.Path.{refl}
-use borrow.Author.Needs.{needs}
+use mathlib.Core.Path.{sym, _∙_}
+use borrow.Author.Tests.{not-true, not-false}
 use Rattle.stored.proofs.Joins.{joined}
+use Rattle.stored.proofs.FitLaws.{fits-placed, follows-not, follows-so}
+use borrow.Author.Needs.{needs}
 use Rattle.stored.proofs.validity.may_follow.Statement.{statement}
 use Rattle.stored.proofs.validity.may_follow.Tie as tie
 
@@ -13,13 +15,39 @@ serial-fits-requires c κs = search needs
 both-requires : tie.Need-both-requires
 both-requires c κs = search needs
 
-both-requires-2 : tie.Need-both-requires-2
-both-requires-2 c κs = search needs
-
 returns : tie.Need-returns
-returns c = joined (joined (c .before .before .before .circuit-fits .ensures) (c .before .before .serial-fits .ensures) (c .before .both .ensures)) refl (c .both2 .ensures)
+returns c =
+    let tests = c .before in
+    follows-not _ _ _ (sym (joined (tests .before .before .circuit-fits .ensures) (tests .before .serial-fits .ensures) (tests .both .ensures)) ∙ not-true _ (c .if1 .taken))
+
+cast-hold : tie.Need-cast-hold
+cast-hold c = search needs
+
+hold-requires : tie.Need-hold-requires
+hold-requires c κs =
+    let branch = c .before .before in
+    let tests = branch .before in
+    let s = tests .before .before .before in
+    (s .pre .0, fits-placed (s .args .n) (s .args .w) (s .args .circuit) _ (s .pre .1) (s .pre .2) (sym (joined (tests .before .before .circuit-fits .ensures) (tests .before .serial-fits .ensures) (tests .both .ensures)) ∙ not-false _ (branch .if1 .left)))
+
+same-length : tie.Need-same-length
+same-length c = search needs
+
+returns-2 : tie.Need-returns-2
+returns-2 c =
+    let branch = c .before .before .before .before in
+    let tests = branch .before in
+    follows-so _ _ _ _ _ (sym (joined (tests .before .before .circuit-fits .ensures) (tests .before .serial-fits .ensures) (tests .both .ensures)) ∙ not-false _ (branch .if1 .left)) (c .before .hold .ensures)
 
 pub may-follow-spec : {M : Type 1} → statement M
 may-follow-spec =
     tie.close
-    (tie.spec circuit-fits-requires serial-fits-requires both-requires both-requires-2 returns)
+    (tie.spec
+    circuit-fits-requires
+    serial-fits-requires
+    both-requires
+    returns
+    cast-hold
+    hold-requires
+    same-length
+    returns-2)
