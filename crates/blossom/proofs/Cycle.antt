@@ -41,24 +41,7 @@ module _ (adj : ℕ → ℕ → Bool) (symmetric : Symmetric adj) (M : ℕ → �
   abbrev D : ℕ → ℕ → Bool
   D t z = below M s t z
 
-  -- the walk starts at the base of x, and goes from a base whose mate is in A to the next one; the order falls
-  pub walk-start : (A : ℕ → Bool) (x : ℕ) → s .label x ≡ Even → Walk M s A x (s .base x)
-  walk-start A x ex = record { is-base = I .base-even x ex; level = λ t ot nt. I .below-base t x ot ex }
-
-  pub walk-step : (A : ℕ → Bool) (x b : ℕ) → Walk M s A x b → A (M b) ≡ true → s .label (M b) ≡ Odd
-      → Walk M s A x (s .base (s .parent (M b)))
-  walk-step A x b W ab ob = record {
-    is-base = I .base-even (s .parent (M b)) (I .parent-even (M b) ob);
-    level = λ t ot nt.
-        let bb = W .is-base in
-        cc (
-          W .level t ot nt,
-          I .below-parent t b ot (cc) (cc),
-          tell-apart A (M b) t ab nt .right,
-          I .below-base t (s .parent (M b)) ot (I .parent-even (M b) ob),
-        );
-  }
-
+  -- from a base to the next one the order falls
   pub walk-less : (b : ℕ) → s .label (M b) ≡ Odd → s .order (s .base (s .parent (M b))) < s .order b
   walk-less b ob =
       let m : M (M b) ≡ b = cc (I .mates b) in

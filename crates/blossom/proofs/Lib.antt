@@ -6,6 +6,7 @@ pub mod Tree
 pub mod Absorb
 pub mod Blossom
 pub mod Cycle
+pub mod Climbing
 pub mod Kept
 pub mod Start
 pub mod Scan

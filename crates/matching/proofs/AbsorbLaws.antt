@@ -10,53 +10,10 @@ use borrow.Author.Tests.{eqb-false}
 use lib.ListN.{getD}
 use Rattle.ring.proofs.Cases.{Apart, same, different, test}
 use Rattle.sets.specs.Sets.{has}
-use Rattle.matching.specs.Rows.{cell, belowIn, mixedEntry, absorbedEntry, Readable, Unmixed, AbsorbedVertex, Absorbed}
+use Rattle.matching.specs.Rows.{cell, absorbedEntry, Readable, AbsorbedVertex, Absorbed}
 use Rattle.matching.specs.Search.{Square}
-use Rattle.matching.proofs.RowLaws.{below-even, below-self, below-odd, below-none, readable-turned}
-
--- rows that agree at the even vertices give the same absorbed rows
-module _ (m : ℕ) (rows now : List (List ℕ)) (labels mates : List ℕ)
-    (kept : (w : ℕ) → w < 512 → getD labels w 0 ≡ 1 → getD now w [] ≡ getD rows w []) where
-  same-below : (x y v z : ℕ) → Readable m labels mates x y → z < m → belowIn now labels mates v z ≡ belowIn rows labels mates v z
-  same-below x y v z readable less = elim (test (getD labels z 0) 1) [
-    | same even t ↦ cc (below-even now labels mates v z even, below-even rows labels mates v z even, kept z (omega (arith, readable .few)) even)
-    | different d ↦ elim (test (getD labels z 0) 2) [
-      | different e ↦
-          cc (
-            below-none now labels mates v z (eqb-false _ _ (d .left)) (eqb-false _ _ (e .left)),
-            below-none rows labels mates v z (eqb-false _ _ (d .left)) (eqb-false _ _ (e .left)),
-          )
-      | same odd t ↦ elim (test z v) [
-        | same self u ↦ cc (below-self now labels mates v z odd self, below-self rows labels mates v z odd self)
-        | different u ↦
-            cc (
-              below-odd now labels mates v z odd (eqb-false _ _ (u .left)),
-              below-odd rows labels mates v z odd (eqb-false _ _ (u .left)),
-              kept (getD mates z 0) (omega (arith, readable .few, readable .inside z less)) (readable .mate-even z less odd),
-            )
-      ]
-    ]
-  ]
-
-  pub same-entry : (x y v z : ℕ) → Readable m labels mates x y → z < m
-      → absorbedEntry now labels mates x y v z ≡ absorbedEntry rows labels mates x y v z
-  unfolding absorbedEntry
-  same-entry x y v z readable less =
-      cc (
-        same-below x y v z readable less,
-        kept x (omega (arith, readable .few, readable .x-inside)) (readable .x-even),
-        kept y (omega (arith, readable .few, readable .y-inside)) (readable .y-even),
-      )
-
-  pub same-mixed : (joined : List ℕ) (x y v : ℕ) → Readable m labels mates x y → Unmixed m rows labels mates joined x y v → Unmixed m now labels mates joined x y v
-  unfolding mixedEntry
-  same-mixed joined x y v readable unmixed z less out =
-      cc (
-        unmixed z less out,
-        same-below x y v z readable less,
-        kept x (omega (arith, readable .few, readable .x-inside)) (readable .x-even),
-        kept y (omega (arith, readable .few, readable .y-inside)) (readable .y-even),
-      )
+use Rattle.matching.proofs.RowLaws.{readable-turned}
+use Rattle.matching.proofs.MendLaws.{same-entry}
 
 -- the loop over the vertices: those below n have got their rows
 pub record AbsorbedBelow (n m : ℕ) (rows now : List (List ℕ)) (labels mates sides : List ℕ) (x y : ℕ) : Type 0 where

@@ -2,13 +2,12 @@
 use Prim.Native.Nat.{ℕ, _+_, _<_, _≤_}
 use mathlib.Core.Path.{_≡_, refl, sym, ap, _∙_}
 use mathlib.Core.Bool.{Bool, true, false, _&&_, _||_, not}
-use mathlib.Core.List.{List}
-use mathlib.Core.Logic.{_⊎_, inl, inr}
+use mathlib.Core.List.{List, map}
 use native.Mathlib.Omega.{arith}
 use lib.Dec.{eqb, ltb}
-use lib.ListN.{length, getD, set, replicate, length-set, length-replicate}
+use lib.ListN.{length, getD, set, replicate, length-map, length-set, length-replicate, List·getD-map}
 use lib.Seq.{getD-set-same, getD-set-other}
-use borrow.Author.Tests.{eqb-false, eq-eqb}
+use borrow.Author.Tests.{eqb-false, eq-eqb, ne-eqb}
 use Rattle.ring.proofs.Cases.{yes, no, is, same, different, test, less, not-less, compare}
 use Rattle.ring.specs.declared.requests.Request.{Request}
 use Rattle.sets.specs.Sets.{has}
@@ -17,12 +16,14 @@ use Rattle.blossom.proofs.Rows.{Symmetric}
 use Rattle.matching.specs.Adjacency.{adjacent}
 use Rattle.matching.specs.Arrays.{rest}
 use Rattle.matching.specs.Labelling.{unlabelled, frozen, Relabelled}
+use Rattle.matching.specs.Model.{settledAt}
 use Rattle.matching.specs.Search.{Settled, SearchAt}
-use Rattle.matching.specs.Progress.{begunArrays, relevantIn}
-use Rattle.matching.proofs.AroundLaws.{around-none}
+use Rattle.matching.specs.Progress.{begunArrays}
+use Rattle.matching.proofs.AroundLaws.{relevant, around-none}
 use Rattle.matching.proofs.MaximumLaws.{square-blank}
+use Rattle.matching.proofs.ModelLaws.{settledAt-set}
 use Rattle.matching.proofs.ScanLaws.{scan-starts, scan-passes-to, scan-finishes}
-use Rattle.matching.proofs.SearchLaws.{search-begins, search-ends, rested}
+use Rattle.matching.proofs.SearchLaws.{begun-settled, search-begins, search-ends, settled-alike}
 
 -- r has no neighbour but itself in its set
 pub alone-none : (R : List Request) (r : ℕ) (words : List ℕ) → Neighbours R r words → ((z : ℕ) → z < r → has words z ≡ false)
@@ -45,29 +46,24 @@ alone-none R r words N below above z = elim (compare z (length R)) [
     itself : (z : ℕ) → r ≡ z → adjacent R r z ≡ false
     itself z e = cc (eq-eqb r z e)
 
--- labels of which none has been given during a search
-abbrev pub Quiet : List ℕ → Type 0
-Quiet labels = (z : ℕ) → (getD labels z 0 ≡ 0) ⊎ (getD labels z 0 ≡ 3)
+-- labels without those of a search
+abbrev cleared : List ℕ → List ℕ
+cleared labels = map unlabelled labels
 
-pub quiet-set : (labels : List ℕ) (r : ℕ) → r < length labels → Quiet labels → Quiet (set labels r 3)
-quiet-set labels r h Q z = elim (test z r) [
-  | same e f ↦ inr (ap (λ (w : ℕ). getD (set labels r 3) w 0) e ∙ getD-set-same labels r 3 0 h)
-  | different e ↦ elim (Q z) [
-    | inl f ↦ inl (getD-set-other labels r z 3 0 (eqb-false z r (e .left)) ∙ f)
-    | inr f ↦ inr (getD-set-other labels r z 3 0 (eqb-false z r (e .left)) ∙ f)
-  ]
+cleared-at : (labels : List ℕ) (z : ℕ) → getD (cleared labels) z 0 ≡ unlabelled (getD labels z 0)
+cleared-at labels z = List·getD-map unlabelled labels z 0
+
+-- the end of a search leaves them as they are
+frozen-cleared : (n : ℕ) → frozen (unlabelled n) ≡ unlabelled n
+frozen-cleared n = elim (compare n 3) [
+  | less h e ↦ cc
+  | not-less h e ↦ cc (ne-eqb n 1 (λ f. omega arith), ne-eqb n 2 (λ f. omega arith))
 ]
 
-pub free-past : (labels : List ℕ) (r : ℕ) → ((z : ℕ) → r ≤ z → getD labels z 0 ≡ 0) → (z : ℕ) → r + 1 ≤ z → getD (set labels r 3) z 0 ≡ 0
-free-past labels r H z l = getD-set-other labels r z 3 0 (λ e. omega arith) ∙ H z (omega arith)
-
-unlabelled-quiet : (n : ℕ) → (n ≡ 0) ⊎ (n ≡ 3) → n ≡ unlabelled n
-unlabelled-quiet n (inl e) = rw e refl
-unlabelled-quiet n (inr e) = rw e refl
-
-frozen-quiet : (n : ℕ) → (n ≡ 0) ⊎ (n ≡ 3) → n ≡ frozen n
-frozen-quiet n (inl e) = rw e refl
-frozen-quiet n (inr e) = rw e refl
+-- between searches they say the same
+settled-cleared : (m : ℕ) (labels : List ℕ) (z : ℕ) → settledAt m (cleared labels) z ≡ settledAt m labels z
+unfolding settledAt
+settled-cleared m labels z = cc (cleared-at labels z, begun-settled (getD labels z 0))
 
 pub not-not : (b : Bool) → not b ≡ false → b ≡ true
 not-not true e = refl
@@ -80,43 +76,48 @@ none-relevant false true false a e = e
 none-relevant false false alike a e = refl
 
 module _ (R : List Request) (symmetric : Symmetric (adjacent R)) (mates labels bases : List ℕ) (r : ℕ) (S : Settled R (rest mates labels bases) r) (l : r < length R)
-    (exposed : getD mates r 0 ≡ r) (free : getD labels r 0 < 3) (Q : Quiet labels) (none : (z : ℕ) → adjacent R r z ≡ false) where
-  relabelled : Relabelled (length R) labels labels unlabelled
-  relabelled = record { same-length = refl; at = λ z h. unlabelled-quiet (getD labels z 0) (Q z) }
+    (exposed : getD mates r 0 ≡ r) (free : getD labels r 0 < 3) (none : (z : ℕ) → adjacent R r z ≡ false) where
+  room : length R ≤ length labels
+  room = omega (arith, S .sized .labels, S .sized .few)
 
-  begun : SearchAt R r (begunArrays (rest mates labels bases) r labels) (set (replicate 512 (replicate 512 0)) r mates) 0
+  cleared-room : length R ≤ length (cleared labels)
+  cleared-room = omega (arith, room, length-map labels unlabelled)
+
+  begun : SearchAt R r (begunArrays (rest mates labels bases) r (cleared labels)) (set (replicate 512 (replicate 512 0)) r mates) 0
   begun = search-begins R (rest mates labels bases) r S (replicate 512 (replicate 512 0)) (square-blank (length R) 512 (replicate 512 0) (S .sized .few) (length-replicate {A = ℕ} 512 0))
-      l exposed free labels relabelled
+      l exposed free (cleared labels) (record { same-length = length-map labels unlabelled; at = λ z h. cleared-at labels z })
 
   root : getD (set (replicate 512 0) 0 r) 0 0 ≡ r
   root = getD-set-same (replicate 512 0) 0 r 0 (omega (arith, length-replicate {A = ℕ} 512 0))
 
-  irrelevant : (z : ℕ) → relevantIn R (set labels r 1) (set bases r r) (getD (set (replicate 512 0) 0 r) 0 0) z ≡ false
-  unfolding relevantIn
-  irrelevant z = rw root (none-relevant (eqb (getD (set labels r 1) z 0) 0) (eqb (getD (set labels r 1) z 0) 1)
+  irrelevant : (z : ℕ) → relevant R (set (cleared labels) r 1) (set bases r r) (getD (set (replicate 512 0) 0 r) 0 0) z ≡ false
+  unfolding relevant
+  irrelevant z = rw root (none-relevant (eqb (getD (set (cleared labels) r 1) z 0) 0) (eqb (getD (set (cleared labels) r 1) z 0) 1)
       (eqb (getD (set bases r r) r 0) (getD (set bases r r) z 0)) (adjacent R r z) (none z))
 
-  scanned : SearchAt R r (begunArrays (rest mates labels bases) r labels) (set (replicate 512 (replicate 512 0)) r mates) (0 + 1)
-  scanned = scan-finishes R symmetric r (begunArrays (rest mates labels bases) r labels) (set (replicate 512 (replicate 512 0)) r mates) 0 (getD (set (replicate 512 0) 0 r) 0 0) (0 + length R)
-      (scan-passes-to R symmetric r (begunArrays (rest mates labels bases) r labels) (set (replicate 512 (replicate 512 0)) r mates) 0 (getD (set (replicate 512 0) 0 r) 0 0) (length R) 0
-      (scan-starts R symmetric r (begunArrays (rest mates labels bases) r labels) (set (replicate 512 (replicate 512 0)) r mates) 0 begun (omega arith))
+  scanned : SearchAt R r (begunArrays (rest mates labels bases) r (cleared labels)) (set (replicate 512 (replicate 512 0)) r mates) (0 + 1)
+  scanned = scan-finishes R symmetric r (begunArrays (rest mates labels bases) r (cleared labels)) (set (replicate 512 (replicate 512 0)) r mates) 0 (getD (set (replicate 512 0) 0 r) 0 0) (0 + length R)
+      (scan-passes-to R symmetric r (begunArrays (rest mates labels bases) r (cleared labels)) (set (replicate 512 (replicate 512 0)) r mates) 0 (getD (set (replicate 512 0) 0 r) 0 0) (length R) 0
+      (scan-starts R symmetric r (begunArrays (rest mates labels bases) r (cleared labels)) (set (replicate 512 (replicate 512 0)) r mates) 0 begun (omega arith) (getD (set (replicate 512 0) 0 r) 0 0) refl)
       (omega arith) (λ z a b. irrelevant z)) (omega arith)
 
-  frozen-alone : Relabelled (length R) (set labels r 1) (set labels r 3) frozen
+  frozen-alone : Relabelled (length R) (set (cleared labels) r 1) (set (cleared labels) r 3) frozen
   frozen-alone = record {
-    same-length = length-set labels r 3 ∙ sym (length-set labels r 1);
+    same-length = length-set (cleared labels) r 3 ∙ sym (length-set (cleared labels) r 1);
     at = λ z h. elim (test z r) [
-      | same e f ↦ rw e (getD-set-same labels r 3 0 room ∙ sym (ap frozen (getD-set-same labels r 1 0 room)))
+      | same e f ↦ rw e (getD-set-same (cleared labels) r 3 0 inside ∙ sym (ap frozen (getD-set-same (cleared labels) r 1 0 inside)))
       | different e ↦
           let away = eqb-false z r (e .left) in
-          getD-set-other labels r z 3 0 away ∙ (frozen-quiet (getD labels z 0) (Q z) ∙ sym (ap frozen (getD-set-other labels r z 1 0 away)))
+          getD-set-other (cleared labels) r z 3 0 away ∙ cc (cleared-at labels z, frozen-cleared (getD labels z 0), getD-set-other (cleared labels) r z 1 0 away)
     ];
   }
     where
-      room : r < length labels
-      room = omega (arith, S .sized .labels, S .sized .few)
+      inside : r < length (cleared labels)
+      inside = omega (arith, cleared-room)
 
   -- it is frozen, as its own base
   pub alone-settles : Settled R (rest mates (set labels r 3) (set bases r r)) (r + 1)
-  alone-settles = rested R _ (replicate 512 0) (replicate 512 0) 0 (r + 1) (length-replicate {A = ℕ} 512 0) (length-replicate {A = ℕ} 512 0)
-      (search-ends R symmetric r (begunArrays (rest mates labels bases) r labels) (set (replicate 512 (replicate 512 0)) r mates) (0 + 1) scanned (omega arith) (set labels r 3) frozen-alone)
+  alone-settles = settled-alike R _ (set labels r 3) (replicate 512 0) (replicate 512 0) 0 (r + 1) (length-set labels r 3 ∙ S .sized .labels)
+      (length-replicate {A = ℕ} 512 0) (length-replicate {A = ℕ} 512 0)
+      (λ z. settledAt-set (length R) (cleared labels) r 3 z l cleared-room ∙ cc (settled-cleared (length R) labels z, settledAt-set (length R) labels r 3 z l room))
+      (search-ends R symmetric r (begunArrays (rest mates labels bases) r (cleared labels)) (set (replicate 512 (replicate 512 0)) r mates) (0 + 1) scanned (omega arith) (set (cleared labels) r 3) frozen-alone)

@@ -5,187 +5,105 @@ use mathlib.Core.Bool.{Bool, true, false, _&&_, _||_}
 use mathlib.Core.List.{List}
 use native.Mathlib.Numerals.{add-one}
 use native.Mathlib.Omega.{arith}
-use lib.Dec.{eqb, ltb}
+use lib.Dec.{eqb}
 use lib.ListN.{length, getD, set, replicate, length-set}
-use lib.Seq.{getD-set-same, getD-set-other}
-use borrow.Author.Tests.{eqb-true, eqb-false, lt-ltb, le-ltb}
-use Rattle.ring.proofs.Cases.{yes, no, is, same, different, test, less, not-less, compare, impossible}
+use borrow.Author.Tests.{eqb-true, eqb-false, lt-ltb}
+use Rattle.ring.proofs.Cases.{yes, no, is, same, different, test, less, not-less, compare}
 use Rattle.sets.specs.Sets.{has}
-use Rattle.sets.proofs.SetLaws.{has-none}
 use Rattle.matching.specs.Model.{among}
-use Rattle.matching.specs.Steps.{joinsBlossom, newBase}
-use Rattle.matching.specs.Bases.{hasBelow, RebasedVertex, Based, PartRebased, Collected, RebasedOver, Rebasable}
+use Rattle.matching.specs.Steps.{baseOn, joinsBlossom, newBase}
+use Rattle.matching.specs.Bases.{hasBelow, Rebased}
+use Rattle.matching.proofs.RowLaws.{entry-set}
 
--- one vertex, by whether it comes to the class of the blossom
-module _ (labels mates sides : List ℕ) (b z : ℕ) (bases joined : List ℕ) (wide : length bases ≡ 512) where
-  pub vertex-joins : (joined' : List ℕ) → joinsBlossom labels mates bases sides z ≡ true → z < 512 → length joined' ≡ 8
-      → ((y : ℕ) → has joined' y ≡ (eqb y z || has joined y)) → RebasedVertex labels mates sides b z bases joined (set bases z b) joined'
-  vertex-joins joined' j inside words member =
-      let room : z < length bases = omega arith in
-      record {
-        bases-length = length-set bases z b ∙ wide;
-        joined-length = words;
-        base = λ y. elim (test y z) [
-          | same e t ↦ cc (getD-set-same bases z b 0 room)
-          | different d ↦ cc (getD-set-other bases z y b 0 (eqb-false y z (d .left)))
-        ];
-        member = λ y. elim (is (eqb y z)) [ yes t ↦ cc (member y) | no t ↦ cc (member y) ];
-      }
+-- no vertex
+pub rebased-none : (b : ℕ) (given : ℕ → Bool) (bases joined : List ℕ) → length bases ≡ 512 → length joined ≡ 8 → ((z : ℕ) → given z ≡ false)
+    → Rebased b given bases joined bases joined
+rebased-none b given bases joined wide words none =
+    record { bases-length = wide; joined-length = words; base = λ z. cc (none z); member = λ z. cc (none z) }
 
-  pub vertex-stays : joinsBlossom labels mates bases sides z ≡ false → length joined ≡ 8
-      → RebasedVertex labels mates sides b z bases joined bases joined
-  vertex-stays j words = record {
-    bases-length = wide;
-    joined-length = words;
-    base = λ y. elim (is (eqb y z)) [ yes t ↦ cc | no t ↦ cc ];
-    member = λ y. elim (is (eqb y z)) [ yes t ↦ cc | no t ↦ cc ];
-  }
+-- one vertex
+pub rebased-one : (b z : ℕ) (these : ℕ → Bool) (bases joined joined' : List ℕ) → ((y : ℕ) → these y ≡ eqb y z) → length bases ≡ 512 → z < 512
+    → length joined' ≡ 8 → ((y : ℕ) → has joined' y ≡ (eqb y z || has joined y)) → Rebased b these bases joined (set bases z b) joined'
+rebased-one b z these bases joined joined' are wide inside words member = record {
+  bases-length = length-set bases z b ∙ wide;
+  joined-length = words;
+  base = λ y. cc (are y, entry-set bases z b y (omega arith));
+  member = λ y. cc (are y, member y);
+}
 
--- a loop that has seen no vertex yet
-pub collect-none : (labels mates sides : List ℕ) (b : ℕ) (given : ℕ → Bool) (now joined : List ℕ) → ((z : ℕ) → given z ≡ false)
-    → RebasedOver labels mates sides b given now joined now joined
-collect-none labels mates sides b given now joined none bases part =
-    record { part = part; kept = λ z h. h; all = λ z g. impossible (sym g ∙ none z) }
+-- one vertex, by whether its base is on
+module _ (b z : ℕ) (bases on joined : List ℕ) (wide : length bases ≡ 512) where
+  pub vertex-on : (joined' : List ℕ) → eqb (getD on (getD bases z 0) 0) 0 ≡ false → z < 512 → length joined' ≡ 8
+      → ((y : ℕ) → has joined' y ≡ (eqb y z || has joined y)) → Rebased b (λ y. eqb y z && baseOn bases on z) bases joined (set bases z b) joined'
+  vertex-on joined' e = rebased-one b z (λ y. eqb y z && baseOn bases on z) bases joined joined' (λ y. elim (is (eqb y z)) [ yes t ↦ cc | no t ↦ cc ]) wide
 
--- a loop over more vertices, none of them new
-pub collect-skip : {labels mates sides : List ℕ} {b : ℕ} {given given' : ℕ → Bool} {now joined after joined-after : List ℕ}
-    → ((y : ℕ) → given' y ≡ true → given y ≡ true)
-    → RebasedOver labels mates sides b given now joined after joined-after → RebasedOver labels mates sides b given' now joined after joined-after
-collect-skip fewer C bases part =
-    let D = C bases part in
-    record { part = D .part; kept = D .kept; all = λ z g. D .all z (fewer z g) }
+  pub vertex-off : eqb (getD on (getD bases z 0) 0) 0 ≡ true → length joined ≡ 8 → Rebased b (λ y. eqb y z && baseOn bases on z) bases joined bases joined
+  vertex-off e words = rebased-none b (λ y. eqb y z && baseOn bases on z) bases joined wide words (λ y. elim (is (eqb y z)) [ yes t ↦ cc | no t ↦ cc ])
 
--- one turn: the vertex z
-module _ (labels mates sides : List ℕ) (b z : ℕ) (now joined after joined-after : List ℕ)
-    (turned : RebasedVertex labels mates sides b z now joined after joined-after) where
-  member-kept : (y : ℕ) → has joined y ≡ true → has joined-after y ≡ true
-  member-kept y h = elim (is (eqb y z && joinsBlossom labels mates now sides z)) [ yes t ↦ cc (turned .member y) | no t ↦ cc (turned .member y) ]
+-- more vertices
+pub rebased-more : {b : ℕ} {given these : ℕ → Bool} {bases joined now joined' after joined'' : List ℕ} (given' : ℕ → Bool)
+    → Rebased b given bases joined now joined' → Rebased b these now joined' after joined''
+    → ((y : ℕ) → given' y ≡ (these y || given y)) → Rebased b given' bases joined after joined''
+rebased-more {these = these} given' H one more = record {
+  bases-length = one .bases-length;
+  joined-length = one .joined-length;
+  base = λ y. elim (is (these y)) [ yes e ↦ cc (more y, one .base y) | no e ↦ cc (more y, one .base y, H .base y) ];
+  member = λ y. elim (is (these y)) [ yes e ↦ cc (more y, one .member y) | no e ↦ cc (more y, one .member y, H .member y) ];
+}
 
-  pub based-turn : (m : ℕ) → Based m b mates now joined → Based m b mates after joined-after
-  based-turn m B = record {
-    few = B .few;
-    base-inside = B .base-inside;
-    bases-length = turned .bases-length;
-    joined-length = turned .joined-length;
-    bases-inside = λ y l. elim (is (eqb y z && joinsBlossom labels mates now sides z)) [
-      | yes t ↦ let e : getD after y 0 ≡ b = cc (turned .base y) in omega (arith, B .base-inside)
-      | no t ↦ let e : getD after y 0 ≡ getD now y 0 = cc (turned .base y) in omega (arith, B .bases-inside y l)
-    ];
-    mates-inside = B .mates-inside;
-  }
-
-  module _ (bases : List ℕ) (P : PartRebased labels mates sides b bases now joined) where
-    -- a vertex that is not in the set has its old base
-    same-joins : has joined z ≡ false → joinsBlossom labels mates now sides z ≡ joinsBlossom labels mates bases sides z
-    unfolding joinsBlossom
-    same-joins out = let e : getD now z 0 ≡ getD bases z 0 = cc (P .base z) in cc
-
-    part-turn : PartRebased labels mates sides b bases after joined-after
-    part-turn = record {
-      base = λ y. elim (is (eqb y z && joinsBlossom labels mates now sides z)) [
-        | yes t ↦ cc (turned .base y, turned .member y)
-        | no t ↦ cc (turned .base y, turned .member y, P .base y)
-      ];
-      joins = λ y h. elim (is (has joined y)) [
-        | yes t ↦ P .joins y t
-        | no t ↦ elim (test y z) [
-          | different d ↦ impossible (sym h ∙ cc (turned .member y, d .left))
-          | same e u ↦ elim (is (joinsBlossom labels mates now sides z)) [
-            | yes j ↦ cc (same-joins (cc))
-            | no j ↦ impossible (sym h ∙ cc (turned .member y))
-          ]
-        ]
-      ];
-    }
-
-    all-turn : (y : ℕ) → eqb y z ≡ true → joinsBlossom labels mates bases sides y ≡ true → has joined-after y ≡ true
-    all-turn y t j = elim (is (has joined y)) [
-      | yes h ↦ member-kept y h
-      | no h ↦
-          let e : y ≡ z = eqb-true y z t in
-          let k : joinsBlossom labels mates now sides z ≡ true = cc (same-joins (cc)) in
-          cc (turned .member y)
-    ]
-
-  pub collect-turn : (given given' : ℕ → Bool) (start joined₀ : List ℕ) → ((y : ℕ) → given' y ≡ true → eqb y z ≡ false → given y ≡ true)
-      → RebasedOver labels mates sides b given start joined₀ now joined → RebasedOver labels mates sides b given' start joined₀ after joined-after
-  collect-turn given given' start joined₀ covers C bases part =
-      let D = C bases part in
-      record {
-        part = part-turn bases (D .part);
-        kept = λ y h. member-kept y (D .kept y h);
-        all = λ y g j. elim (is (eqb y z)) [
-          | yes t ↦ all-turn bases (D .part) y t j
-          | no t ↦ member-kept y (D .all y (covers y g t) j)
-        ];
-      }
-
--- the queue has one vertex more, z
-pub among-more : (queue : List ℕ) (i z : ℕ) → z ≡ getD queue i 0 → (y : ℕ) → among queue (i + 1) y ≡ true → eqb y z ≡ false → among queue i y ≡ true
-among-more queue i z e y h t = let g : (eqb y (getD queue i 0) || among queue i y) ≡ true = rw add-one at h in cc
-
--- no vertex of a set is below 0, and none is between one and the next
-pub below-zero : (words : List ℕ) (y : ℕ) → hasBelow 0 words y ≡ false
-unfolding hasBelow
-below-zero words y = cc (le-ltb y 0 (omega arith))
-
-pub below-skip : (words : List ℕ) (n next y : ℕ) → ((k : ℕ) → n ≤ k → k < next → has words k ≡ false) → hasBelow next words y ≡ true → hasBelow n words y ≡ true
-unfolding hasBelow
-below-skip words n next y none h = elim (compare y n) [
-  | less a b ↦ elim (is (has words y)) [ yes t ↦ cc | no t ↦ impossible (sym h ∙ absent (ltb y next) t) ]
-  | not-less a b ↦ elim (compare y next) [
-    | less l k ↦ impossible (sym h ∙ absent (ltb y next) (none y a l))
-    | not-less l k ↦ impossible (sym h ∙ cc)
-  ]
+-- a base is below m still
+pub rebased-inside : {b : ℕ} {given : ℕ → Bool} {bases joined after joined' : List ℕ} (m : ℕ) → Rebased b given bases joined after joined' → b < m
+    → (z : ℕ) → getD bases z 0 < m → getD after z 0 < m
+rebased-inside {b} {given} {bases} {joined} {after} m H inside z l = elim (is (given z)) [
+  | yes t ↦ let e : getD after z 0 ≡ b = cc (H .base z) in omega arith
+  | no t ↦ let e : getD after z 0 ≡ getD bases z 0 = cc (H .base z) in omega arith
 ]
-  where
-    absent : (t : Bool) → has words y ≡ false → (t && has words y) ≡ false
-    absent true e = e
-    absent false e = refl
 
-pub below-turn : (words : List ℕ) (n y : ℕ) → hasBelow (n + 1) words y ≡ true → eqb y n ≡ false → hasBelow n words y ≡ true
+-- the queue has one vertex more, z: `seen` says whether it was there before, `on` and `now` whether its base was on and is on
+queue-test : (here seen on now : Bool) → (here ≡ true → (seen && on) ≡ false → now ≡ on) → ((here || seen) && on) ≡ (here && now || seen && on)
+queue-test false seen on now h = refl
+queue-test true true true true h = refl
+queue-test true true true false h = refl
+queue-test true true false now h = cc (h refl refl)
+queue-test true false true now h = cc (h refl refl)
+queue-test true false false now h = cc (h refl refl)
+
+pub queued-turn : {b : ℕ} {bases joined now joined' : List ℕ} (queue on : List ℕ) (i z : ℕ) → z ≡ getD queue i 0
+    → Rebased b (λ y. among queue i y && baseOn bases on y) bases joined now joined'
+    → (y : ℕ) → (among queue (i + 1) y && baseOn bases on y) ≡ (eqb y z && baseOn now on z || among queue i y && baseOn bases on y)
+queued-turn {b} {bases} {joined} {now} queue on i z e H y = rw add-one (rw (sym e) (queue-test (eqb y z) (among queue i y) (baseOn bases on y) (baseOn now on z)
+    (λ t n. let f : y ≡ z = eqb-true y z t in cc (H .base y))))
+
+-- a loop over a set: no vertex before the first one, and one more
+pub below-none : (words : List ℕ) (next : ℕ) → ((k : ℕ) → 0 ≤ k → k < next → has words k ≡ false) → (y : ℕ) → hasBelow next words y ≡ false
 unfolding hasBelow
-below-turn words n y h t = elim (compare y n) [
-  | less a b ↦ cc (lt-ltb y (n + 1) (omega arith))
-  | not-less a b ↦ impossible (sym h ∙ cc (le-ltb y (n + 1) (omega (arith, eqb-false y n t))))
+below-none words next none y = elim (compare y next) [ less l k ↦ cc (none y (omega arith) l) | not-less l k ↦ cc ]
+
+pub below-turn : (words : List ℕ) (z next : ℕ) → z + 1 ≤ next → has words z ≡ true → ((k : ℕ) → z + 1 ≤ k → k < next → has words k ≡ false)
+    → (y : ℕ) → hasBelow next words y ≡ (eqb y z || hasBelow z words y)
+unfolding hasBelow
+below-turn words z next l h none y = elim (test y z) [
+  | same e t ↦ cc (lt-ltb y next (omega arith))
+  | different d ↦ elim (compare y z) [
+    | less a b ↦ cc (lt-ltb y next (omega arith), d .left)
+    | not-less a b ↦ elim (compare y next) [
+      | less i j ↦ cc (d .left, none y (omega (arith, eqb-false y z (d .left))) i)
+      | not-less i j ↦ cc (d .left)
+    ]
+  ]
 ]
 
 -- after the queued vertices and those of the cycle
-module _ (m b : ℕ) (labels mates bases queue sides cycle : List ℕ) (clock : ℕ) (R : Rebasable m b labels mates bases queue sides cycle clock)
-    (middle joined₁ after joined₂ : List ℕ)
-    (first : RebasedOver labels mates sides b (among queue clock) bases (replicate 8 0) middle joined₁)
-    (second : RebasedOver labels mates sides b (hasBelow m cycle) middle joined₁ after joined₂) where
-  start : PartRebased labels mates sides b bases bases (replicate 8 0)
-  start = record { base = λ z. cc (has-none z); joins = λ z h. impossible (sym h ∙ has-none z) }
+module _ (m b : ℕ) (bases queue cycle on : List ℕ) (clock : ℕ) {middle joined after joined' : List ℕ}
+    (first : Rebased b (λ z. among queue clock z && baseOn bases on z) bases (replicate 8 0) middle joined)
+    (second : Rebased b (hasBelow m cycle) middle joined after joined') where
+  whole : Rebased b (λ z. hasBelow m cycle z || among queue clock z && baseOn bases on z) bases (replicate 8 0) after joined'
+  whole = rebased-more (λ z. hasBelow m cycle z || among queue clock z && baseOn bases on z) first second (λ y. refl)
 
-  queued : Collected labels mates sides b (among queue clock) bases (replicate 8 0) middle joined₁
-  queued = first bases start
+  pub rebased-base : (z : ℕ) → z < m → getD after z 0 ≡ newBase bases queue clock cycle on b z
+  unfolding newBase joinsBlossom hasBelow
+  rebased-base z l = cc (whole .base z, lt-ltb z m l)
 
-  cycled : Collected labels mates sides b (hasBelow m cycle) bases joined₁ after joined₂
-  cycled = second bases (queued .part)
-
-  pub rebased-joined : (z : ℕ) → z < m → joinsBlossom labels mates bases sides z ≡ true → has joined₂ z ≡ true
+  pub rebased-joined : (z : ℕ) → z < m → joinsBlossom bases queue clock cycle on z ≡ true → has joined' z ≡ true
   unfolding joinsBlossom hasBelow
-  rebased-joined z l j = elim (test (getD sides z 0) 0) [
-    | same e t ↦ cycled .kept z (queued .all z (R .even-queued z l (even e)) j)
-    | different d ↦ elim (is (has cycle z)) [
-      | yes h ↦ cycled .all z (inside h) j
-      | no h ↦ absurd (eqb-false (getD sides z 0) 0 (d .left) (R .covered z l h))
-    ]
-  ]
-    where
-      even : getD sides z 0 ≡ 0 → getD labels z 0 ≡ 1
-      even e = elim (test (getD labels z 0) 1) [ same f t ↦ f | different d ↦ impossible (sym j ∙ cc (d .left)) ]
-
-      inside : has cycle z ≡ true → hasBelow m cycle z ≡ true
-      inside h = cc (lt-ltb z m l)
-
-  pub rebased-base : (z : ℕ) → z < m → getD after z 0 ≡ newBase labels mates bases sides b z
-  unfolding newBase
-  rebased-base z l = elim (is (joinsBlossom labels mates bases sides z)) [
-    | yes j ↦ cc (cycled .part .base z, rebased-joined z l j)
-    | no j ↦ elim (is (has joined₂ z)) [
-      | yes h ↦ impossible (sym (cycled .part .joins z h) ∙ j)
-      | no h ↦ cc (cycled .part .base z)
-    ]
-  ]
+  rebased-joined z l j = cc (whole .member z, lt-ltb z m l)

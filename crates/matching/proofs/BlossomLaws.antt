@@ -1,7 +1,7 @@
 -- The arrays after a blossom stand for the shrunk state.
 use Prim.Native.Nat.{ℕ, suc, _+_, _<_, _≤_}
 use mathlib.Core.Path.{_≡_, refl, sym, ap, _∙_}
-use mathlib.Core.Bool.{Bool, true, false, not, cond, _&&_, _||_}
+use mathlib.Core.Bool.{Bool, true, not, cond, _&&_, _||_}
 use mathlib.Core.List.{List, []}
 use native.Mathlib.Numerals.{add-one}
 use native.Mathlib.Omega.{arith}
@@ -14,17 +14,18 @@ use Rattle.blossom.proofs.Labels.{Even, Odd, even?, is-free, is-even, is-odd, i
 use Rattle.blossom.proofs.Rows.{Symmetric}
 use Rattle.blossom.proofs.State.{State, below, Invariant}
 use Rattle.blossom.proofs.Blossom.{merged, shrunk, NewOrders}
-use Rattle.blossom.proofs.Cycle.{cycle, cycle-odd, Walk}
+use Rattle.blossom.proofs.Cycle.{cycle, cycle-odd}
 use Rattle.blossom.proofs.Scanning.{scan-blossom}
 use Rattle.matching.specs.Arrays.{Arrays, arrays}
 use Rattle.matching.specs.Adjacency.{adjacent}
 use Rattle.matching.specs.Model.{entry, rowAt, labelOf, labelAt, settledOf, settledAt, among}
-use Rattle.matching.specs.Rows.{cell, sideOf, Absorbed}
+use Rattle.matching.specs.Climbs.{Marks}
+use Rattle.matching.specs.Rows.{cell, Absorbed}
 use Rattle.matching.specs.Search.{Square, Stands, Standing, ScanAt}
 use Rattle.matching.specs.Steps.{onCycle, joinsBlossom, newBase, Promoted}
-use Rattle.matching.proofs.AdjacencyLaws.{mates-inside}
 use Rattle.matching.proofs.ModelLaws.{entry-inside}
 use Rattle.matching.proofs.StandingLaws.{count-room, even-inside, odd-inside, entry-outside, unfrozen}
+use Rattle.matching.proofs.ClosingLaws.{Closed}
 use Rattle.matching.proofs.CycleLaws.{is-even-number, on-cycle, side-first, side-second, absorbed-inside, absorbed-outside, label-inside}
 
 -- a set with a member below m is not empty
@@ -37,16 +38,18 @@ among-same q q' Prim.Native.Nat.zero e z = refl
 among-same q q' (suc k) e z = cc (e k (omega arith), among-same q q' k (λ i h. e i (omega arith)) z)
 
 module _ (R : List Request) (symmetric : Symmetric (adjacent R)) (r : ℕ) (s : Arrays) (rows : List (List ℕ)) (h x y : ℕ)
-    (at : ScanAt R r s rows h x y) (ey : at .standing .state .label y ≡ Even) (axy : adjacent R x y ≡ true)
-    (sides : List ℕ) (sided : (v : ℕ) → v < length R → getD sides v 0 ≡ sideOf rows (s .labels) (s .mates) x y v) where
+    {k : ℕ} {found : Marks} (C : Closed R r s rows h x y k found) where
   abbrev m : ℕ
   m = length R
 
   abbrev T : Standing R r s rows
-  T = at .standing
+  T = C .at .standing
 
   abbrev state : State
-  state = at .standing .state
+  state = C .at .standing .state
+
+  abbrev sides : List ℕ
+  sides = found .sides
 
   abbrev M : ℕ → ℕ
   M = entry (length R) (s .mates)
@@ -55,13 +58,13 @@ module _ (R : List Request) (symmetric : Symmetric (adjacent R)) (r : ℕ) (s : 
   A = cycle M state x y
 
   abbrev I : Invariant (adjacent R) M r state
-  I = at .scanning .search .invariant
+  I = C .at .scanning .search .invariant
 
   x-even : state .label x ≡ Even
-  x-even = at .scanning .partly .x-even
+  x-even = C .at .scanning .partly .x-even
 
   pub on : (v : ℕ) → onCycle m sides v ≡ A v
-  on = on-cycle R r s rows state (T .stands) I x y x-even ey sides sided
+  on = on-cycle R r s rows state (T .stands) I x y sides (C .right)
 
   odd-on : (v : ℕ) → A v ≡ true → state .label v ≡ Odd
   odd-on v a = cycle-odd M state x y v a
@@ -89,27 +92,16 @@ module _ (R : List Request) (symmetric : Symmetric (adjacent R)) (r : ℕ) (s : 
   base-inside z l = rw (T .stands .base-is z ∙ entry-inside m (s .bases) z l) (T .sized .bases-inside z l)
 
   -- the class of the blossom
-  pub joins-is : (z : ℕ) → z < m → joinsBlossom (s .labels) (s .mates) (s .bases) sides z ≡ (A z || even? (state .label z) && A (M (state .base z)))
-  unfolding joinsBlossom onCycle
+  pub joins-is : (z : ℕ) → z < m → joinsBlossom (s .bases) (s .queue) (s .clock) (found .cycle) (found .bases-on) z ≡ (A z || even? (state .label z) && A (M (state .base z)))
+  unfolding joinsBlossom
   joins-is z l =
       let b = T .stands .base-is z ∙ entry-inside m (s .bases) z l in
-      let hb = base-inside z l in
-      let mb = entry-inside m (s .mates) (state .base z) hb in
-      let hm = mates-inside R M (T .between .mates) (state .base z) hb in
-      cc (
-        on z,
-        lt-ltb z m l,
-        on (M (state .base z)),
-        lt-ltb (M (state .base z)) m hm,
-        label-inside R r s rows state (T .stands) I z l,
-        is-even-number (getD (s .labels) z 0),
-      )
+      cc (C .cycle-is z l, C .on-is (state .base z) (base-inside z l), T .stands .queued z)
 
-  module _ (k : ℕ) (W : Walk M state A x k) (nk : A (M k) ≡ false)
-      (rows' : List (List ℕ)) (square : Square (length R) rows') (absorbed : Absorbed m rows rows' (s .labels) (s .mates) sides x y)
+  module _ (rows' : List (List ℕ)) (square : Square (length R) rows') (absorbed : Absorbed m rows rows' (s .labels) (s .mates) (found .sides) x y)
       (bases : List ℕ) (bases-length : length bases ≡ 512)
-      (based : (z : ℕ) → z < m → getD bases z 0 ≡ newBase (s .labels) (s .mates) (s .bases) sides k z)
-      (labels' queue' : List ℕ) (clock' : ℕ) (P : Promoted m m sides (s .labels) (s .queue) (s .clock) labels' queue' clock') where
+      (based : (z : ℕ) → z < m → getD bases z 0 ≡ newBase (s .bases) (s .queue) (s .clock) (found .cycle) (found .bases-on) k z)
+      (labels' queue' : List ℕ) (clock' : ℕ) (P : Promoted m m (found .sides) (s .labels) (s .queue) (s .clock) labels' queue' clock') where
     abbrev t : Arrays
     t = arrays (s .mates) labels' bases (s .parents) queue' clock'
 
@@ -123,7 +115,7 @@ module _ (R : List Request) (symmetric : Symmetric (adjacent R)) (r : ℕ) (s : 
     after = shrunk M state A p q k (λ v. s .clock) (s .clock + count (onCycle m sides) m)
 
     k-even : state .label k ≡ Even
-    k-even = cc (W .is-base)
+    k-even = cc (C .walked .is-base)
 
     k-inside : k < m
     k-inside = even-inside R s rows state (T .stands) k k-even
@@ -140,7 +132,7 @@ module _ (R : List Request) (symmetric : Symmetric (adjacent R)) (r : ℕ) (s : 
     settled-after z = let e = on z in let l = T .frozen-label-is z in let g = P .label z in elim (is (A z)) [
       | yes f ↦ cc (
         lt-ltb z m (odd-inside R s rows state (T .stands) z (odd-on z f)),
-        unfrozen (adjacent R) M (T .frozen-label) (T .frozen-base) r state (at .scanned) (at .scanning .search) z (cc (odd-on z f)),
+        unfrozen (adjacent R) M (T .frozen-label) (T .frozen-base) r state (C .at .scanned) (C .at .scanning .search) z (cc (odd-on z f)),
       )
       | no f ↦ cc
     ]
@@ -182,12 +174,12 @@ module _ (R : List Request) (symmetric : Symmetric (adjacent R)) (r : ℕ) (s : 
         let ha = odd-inside R s rows state (T .stands) a (odd-on a e) in
         elim (is (below M state a x)) [
           | yes f ↦ cc (
-            absorbed .first a z ha l (side-first R r s rows state (T .stands) I x y x-even ey sides sided a ha e f),
-            absorbed-inside R r s rows state (T .stands) I x y a z x-even ey ha l,
+            absorbed .first a z ha l (side-first R r s rows state (T .stands) I x y sides (C .right) a ha e f),
+            absorbed-inside R r s rows state (T .stands) I x y a z x-even (C .even) ha l,
           )
           | no f ↦ cc (
-            absorbed .second a z ha l (side-second R r s rows state (T .stands) I x y x-even ey sides sided a ha e f),
-            absorbed-inside R r s rows state (T .stands) I y x a z ey x-even ha l,
+            absorbed .second a z ha l (side-second R r s rows state (T .stands) I x y sides (C .right) a ha e f),
+            absorbed-inside R r s rows state (T .stands) I y x a z (C .even) x-even ha l,
           )
         ]
 
@@ -205,8 +197,8 @@ module _ (R : List Request) (symmetric : Symmetric (adjacent R)) (r : ℕ) (s : 
             let ha = odd-inside R s rows state (T .stands) a (odd-on a f) in
             let n = entry-outside m (getD rows' a []) z i in
             elim (is (below M state a x)) [
-              | yes g ↦ cc (absorbed-outside R r s rows state (T .stands) I x y a z x-even ey ha i)
-              | no g ↦ cc (absorbed-outside R r s rows state (T .stands) I y x a z ey x-even ha i)
+              | yes g ↦ cc (absorbed-outside R r s rows state (T .stands) I x y a z x-even (C .even) ha i)
+              | no g ↦ cc (absorbed-outside R r s rows state (T .stands) I y x a z (C .even) x-even ha i)
             ]
       ]
     ]
@@ -257,10 +249,10 @@ module _ (R : List Request) (symmetric : Symmetric (adjacent R)) (r : ℕ) (s : 
         state = after;
         stands = stands-after;
       };
-      scanned = at .scanned;
-      scanned-is = λ z. at .scanned-is z ∙ sym (among-same (s .queue) (t .queue) h (λ i l. P .before i (omega (arith, at .next))) z);
-      next = omega (arith, at .next, P .counted);
-      current = at .current ∙ sym (P .before h (at .next));
-      scanning = rw add-one (scan-blossom (adjacent R) symmetric M (T .frozen-label) (T .frozen-base) r state (at .scanned) x y (at .scanning)
-          ey axy k W nk (λ v. s .clock) (s .clock + count (onCycle m sides) m) orders);
+      scanned = C .at .scanned;
+      scanned-is = λ z. C .at .scanned-is z ∙ sym (among-same (s .queue) (t .queue) h (λ i l. P .before i (omega (arith, C .at .next))) z);
+      next = omega (arith, C .at .next, P .counted);
+      current = C .at .current ∙ sym (P .before h (C .at .next));
+      scanning = rw add-one (scan-blossom (adjacent R) symmetric M (T .frozen-label) (T .frozen-base) r state (C .at .scanned) x y (C .at .scanning)
+          (C .even) (C .neighbour) k (C .walked) (C .ended) (λ v. s .clock) (s .clock + count (onCycle m sides) m) orders);
     }

@@ -16,11 +16,18 @@ use Rattle.blossom.proofs.Cycle.{differ, cycle}
 use Rattle.matching.specs.Arrays.{Arrays}
 use Rattle.matching.specs.Adjacency.{adjacent}
 use Rattle.matching.specs.Model.{entry, labelOf}
-use Rattle.matching.specs.Rows.{cell, belowIn, absorbedEntry, sideBy, sideOf}
+use Rattle.matching.specs.Rows.{cell, belowIn, absorbedEntry}
 use Rattle.matching.specs.Search.{Stands}
 use Rattle.matching.specs.Steps.{onCycle}
 use Rattle.matching.proofs.ModelLaws.{entry-inside, labelAt-inside}
 use Rattle.matching.proofs.StandingLaws.{even-inside, odd-inside, entry-outside}
+
+-- on which side of the edge from x to y the cycle has a vertex: 0 on none, 1 above x alone, 2 above y alone; by whether it is odd, above x and above y
+abbrev pub side : Bool → Bool → Bool → ℕ
+side o a b = cond o (cond a (cond b 0 1) (cond b 2 0)) 0
+
+abbrev pub sideOf : (ℕ → ℕ) → State → ℕ → ℕ → ℕ → ℕ
+sideOf M state x y v = side (odd? (state .label v)) (below M state v x) (below M state v y)
 
 -- the number of a label
 pub is-odd-number : (n : ℕ) → odd? (labelOf n) ≡ eqb n 2
@@ -81,21 +88,11 @@ module _ (R : List Request) (r : ℕ) (s : Arrays) (rows : List (List ℕ)) (sta
         | is-frozen e ↦ cc
       ]
 
-  module _ (x y : ℕ) (ex : state .label x ≡ Even) (ey : state .label y ≡ Even) where
-    pub side-below : (v : ℕ) → v < m → eqb (cell rows x v) (getD (s .mates) v 0) ≡ not (below M state v x)
-    side-below v h = let e = row-cell x v ex h in let f = entry-inside m (s .mates) v h in
-        elim (is (eqb (cell rows x v) (getD (s .mates) v 0))) [ yes g ↦ cc | no g ↦ cc ]
+  pub row-below : (x v : ℕ) → state .label x ≡ Even → v < m → eqb (cell rows x v) (getD (s .mates) v 0) ≡ not (below M state v x)
+  row-below x v ex h = let e = row-cell x v ex h in let f = entry-inside m (s .mates) v h in
+      elim (is (eqb (cell rows x v) (getD (s .mates) v 0))) [ yes g ↦ cc | no g ↦ cc ]
 
-  module _ (x y : ℕ) (ex : state .label x ≡ Even) (ey : state .label y ≡ Even)
-      (sides : List ℕ) (sided : (v : ℕ) → v < m → getD sides v 0 ≡ sideOf rows (s .labels) (s .mates) x y v) where
-    -- the side of v, by what it is above
-    abbrev side : Bool → Bool → Bool → ℕ
-    side o a b = cond o (sideBy (not a) (not b)) 0
-
-    side-is : (v : ℕ) → v < m → getD sides v 0 ≡ side (odd? (state .label v)) (below M state v x) (below M state v y)
-    unfolding sideOf
-    side-is v h = cc (sided v h, label-inside v h, is-odd-number (getD (s .labels) v 0), side-below x y ex ey v h, side-below y x ey ex v h)
-
+  module _ (x y : ℕ) (sides : List ℕ) (sided : (v : ℕ) → v < m → getD sides v 0 ≡ sideOf M state x y v) where
     some-side : (o a b : Bool) → not (eqb (side o a b) 0) ≡ (o && differ a b)
     some-side true true true = refl
     some-side true true false = refl
@@ -106,7 +103,7 @@ module _ (R : List Request) (r : ℕ) (s : Arrays) (rows : List (List ℕ)) (sta
     pub on-cycle : (v : ℕ) → onCycle m sides v ≡ cycle M state x y v
     unfolding onCycle
     on-cycle v = elim (compare v m) [
-      | less h i ↦ cc (side-is v h, some-side (odd? (state .label v)) (below M state v x) (below M state v y))
+      | less h i ↦ cc (sided v h, some-side (odd? (state .label v)) (below M state v x) (below M state v y))
       | not-less h i ↦ elim (label-case (state .label v)) [
         | is-free e ↦ cc
         | is-even e ↦ cc
@@ -131,10 +128,10 @@ module _ (R : List Request) (r : ℕ) (s : Arrays) (rows : List (List ℕ)) (sta
     second-side false a b e f = cc
 
     pub side-first : (v : ℕ) → v < m → cycle M state x y v ≡ true → below M state v x ≡ true → getD sides v 0 ≡ 1
-    side-first v h a b = side-is v h ∙ first-side (odd? (state .label v)) (below M state v x) (below M state v y) a b
+    side-first v h a b = sided v h ∙ first-side (odd? (state .label v)) (below M state v x) (below M state v y) a b
 
     pub side-second : (v : ℕ) → v < m → cycle M state x y v ≡ true → below M state v x ≡ false → getD sides v 0 ≡ 2
-    side-second v h a b = side-is v h ∙ second-side (odd? (state .label v)) (below M state v x) (below M state v y) a b
+    side-second v h a b = sided v h ∙ second-side (odd? (state .label v)) (below M state v x) (below M state v y) a b
 
     -- and what a side says
     one-side : (o a b : Bool) → side o a b ≡ 1 → three o a b ≡ three true true false
@@ -152,10 +149,10 @@ module _ (R : List Request) (r : ℕ) (s : Arrays) (rows : List (List ℕ)) (sta
     two-side false a b e = cc
 
     pub side-one : (v : ℕ) → v < m → getD sides v 0 ≡ 1 → three (odd? (state .label v)) (below M state v x) (below M state v y) ≡ three true true false
-    side-one v h e = one-side (odd? (state .label v)) (below M state v x) (below M state v y) (sym (side-is v h) ∙ e)
+    side-one v h e = one-side (odd? (state .label v)) (below M state v x) (below M state v y) (sym (sided v h) ∙ e)
 
     pub side-two : (v : ℕ) → v < m → getD sides v 0 ≡ 2 → three (odd? (state .label v)) (below M state v x) (below M state v y) ≡ three true false true
-    side-two v h e = two-side (odd? (state .label v)) (below M state v x) (below M state v y) (sym (side-is v h) ∙ e)
+    side-two v h e = two-side (odd? (state .label v)) (below M state v x) (below M state v y) (sym (sided v h) ∙ e)
 
     -- only an odd vertex has a side
     side-none : (o a b : Bool) → o ≡ false → side o a b ≡ 0
@@ -163,7 +160,7 @@ module _ (R : List Request) (r : ℕ) (s : Arrays) (rows : List (List ℕ)) (sta
     side-none false a b e = refl
 
     pub side-of-other : (v : ℕ) → v < m → odd? (state .label v) ≡ false → getD sides v 0 ≡ 0
-    side-of-other v h e = side-is v h ∙ side-none (odd? (state .label v)) (below M state v x) (below M state v y) e
+    side-of-other v h e = sided v h ∙ side-none (odd? (state .label v)) (below M state v x) (below M state v y) e
 
   -- an absorbed row, entry by entry
   pub absorbed-inside : (p q v z : ℕ) → state .label p ≡ Even → state .label q ≡ Even → v < m → z < m

@@ -1,6 +1,6 @@
 -- The first number that passes a test.
 use Prim.Native.Nat.{ℕ, _+_, _<_, _≤_}
-use mathlib.Core.Path.{_≡_, ap, _∙_}
+use mathlib.Core.Path.{_≡_, sym, ap, _∙_}
 use mathlib.Core.Bool.{Bool, true, false}
 use native.Mathlib.Omega.{arith}
 use borrow.Author.Tests.{eqb-false}
@@ -37,3 +37,12 @@ passed-found check from n m P l e = record { least = P .0; most = omega arith; p
 
 pub passed-all : (check : ℕ → Bool) (from m : ℕ) → Passed check from m → First check from m m
 passed-all check from m P = record { least = P .0; most = omega arith; passed = P .1; found = λ h. absurd (omega arith) }
+
+-- tests that agree below m
+pub first-alike : (p q : ℕ → Bool) (from m n : ℕ) → ((z : ℕ) → z < m → p z ≡ q z) → First p from m n → First q from m n
+first-alike p q from m n alike F = record {
+  least = F .least;
+  most = F .most;
+  passed = λ z a b. sym (alike z (omega (arith, F .most))) ∙ F .passed z a b;
+  found = λ h. sym (alike n h) ∙ F .found h;
+}

@@ -14,11 +14,12 @@ use Rattle.blossom.proofs.Cycle.{cycle, cycle-symmetric}
 use Rattle.blossom.proofs.Kept.{kept-either}
 use Rattle.matching.specs.Adjacency.{adjacent}
 use Rattle.matching.specs.Arrays.{Arrays}
+use Rattle.matching.specs.Climbs.{Marks}
 use Rattle.matching.specs.Model.{entry}
-use Rattle.matching.specs.Rows.{sideOf, mixedEntry, Unmixed}
-use Rattle.matching.specs.Search.{ScanAt}
+use Rattle.matching.specs.Rows.{mixedEntry, Unmixed}
 use Rattle.matching.specs.Steps.{joinsBlossom}
 use Rattle.matching.proofs.CycleLaws.{row-cell, below-arrays, side-one, side-two}
+use Rattle.matching.proofs.ClosingLaws.{Closed}
 use Rattle.matching.proofs.BlossomLaws.{joins-is}
 
 odd-label : (l : Label) → odd? l ≡ true → l ≡ Odd
@@ -32,11 +33,11 @@ neither true b e = impossible e
 neither false b e = cc
 
 module _ (R : List Request) (symmetric : Symmetric (adjacent R)) (r : ℕ) (s : Arrays) (rows : List (List ℕ)) (h x y : ℕ)
-    (at : ScanAt R r s rows h x y) (ey : at .standing .state .label y ≡ Even) (axy : adjacent R x y ≡ true)
-    (sides : List ℕ) (sided : (v : ℕ) → v < length R → getD sides v 0 ≡ sideOf rows (s .labels) (s .mates) x y v)
-    (joined : List ℕ) (covers : (z : ℕ) → z < length R → joinsBlossom (s .labels) (s .mates) (s .bases) sides z ≡ true → has joined z ≡ true) where
+    {b : ℕ} {found : Marks} (C : Closed R r s rows h x y b found)
+    (joined : List ℕ)
+    (covers : (z : ℕ) → z < length R → joinsBlossom (s .bases) (s .queue) (s .clock) (found .cycle) (found .bases-on) z ≡ true → has joined z ≡ true) where
   abbrev state : State
-  state = at .standing .state
+  state = C .at .standing .state
 
   abbrev M : ℕ → ℕ
   M = entry (length R) (s .mates)
@@ -45,40 +46,40 @@ module _ (R : List Request) (symmetric : Symmetric (adjacent R)) (r : ℕ) (s : 
   A = cycle M state x y
 
   abbrev I : Invariant (adjacent R) M r state
-  I = at .scanning .search .invariant
+  I = C .at .scanning .search .invariant
 
   ex : state .label x ≡ Even
-  ex = at .scanning .partly .x-even
+  ex = C .at .scanning .partly .x-even
 
   away : (z : ℕ) → z < length R → has joined z ≡ false → two (A z) (even? (state .label z) && A (M (state .base z))) ≡ two false false
   away z l e = neither (A z) (even? (state .label z) && A (M (state .base z)))
-      (sym (joins-is R symmetric r s rows h x y at ey axy sides sided z l) ∙ elim (is (joinsBlossom (s .labels) (s .mates) (s .bases) sides z)) [
+      (sym (joins-is R symmetric r s rows h x y C z l) ∙ elim (is (joinsBlossom (s .bases) (s .queue) (s .clock) (found .cycle) (found .bases-on) z)) [
         | yes f ↦ impossible (cc (covers z l f))
         | no f ↦ f
       ])
 
-  pub unmixed-first : (v : ℕ) → v < length R → getD sides v 0 ≡ 1 → Unmixed (length R) rows (s .labels) (s .mates) joined x y v
+  pub unmixed-first : (v : ℕ) → v < length R → getD (found .sides) v 0 ≡ 1 → Unmixed (length R) rows (s .labels) (s .mates) joined x y v
   unfolding mixedEntry
   unmixed-first v hv e z hz f =
-      let o = side-one R r s rows state (at .standing .stands) I x y ex ey sides sided v hv e in
+      let o = side-one R r s rows state (C .at .standing .stands) I x y (found .sides) (C .right) v hv e in
       let j = away z hz f in
-      let k = kept-either (adjacent R) symmetric M r state I x y v ex ey (odd-label (state .label v) (cc)) (cc) (cc) z (cc) (cc) in
+      let k = kept-either (adjacent R) symmetric M r state I x y v ex (C .even) (odd-label (state .label v) (cc)) (cc) (cc) z (cc) (cc) in
       cc (
-        below-arrays R r s rows state (at .standing .stands) I v z hv hz,
-        row-cell R r s rows state (at .standing .stands) I x z ex hz,
-        row-cell R r s rows state (at .standing .stands) I y z ey hz,
+        below-arrays R r s rows state (C .at .standing .stands) I v z hv hz,
+        row-cell R r s rows state (C .at .standing .stands) I x z ex hz,
+        row-cell R r s rows state (C .at .standing .stands) I y z (C .even) hz,
       )
 
-  pub unmixed-second : (v : ℕ) → v < length R → getD sides v 0 ≡ 2 → Unmixed (length R) rows (s .labels) (s .mates) joined y x v
+  pub unmixed-second : (v : ℕ) → v < length R → getD (found .sides) v 0 ≡ 2 → Unmixed (length R) rows (s .labels) (s .mates) joined y x v
   unfolding mixedEntry
   unmixed-second v hv e z hz f =
-      let o = side-two R r s rows state (at .standing .stands) I x y ex ey sides sided v hv e in
+      let o = side-two R r s rows state (C .at .standing .stands) I x y (found .sides) (C .right) v hv e in
       let j = away z hz f in
       let c = cycle-symmetric M state x y z in
       let d = cycle-symmetric M state x y (M (state .base z)) in
-      let k = kept-either (adjacent R) symmetric M r state I y x v ey ex (odd-label (state .label v) (cc)) (cc) (cc) z (cc) (cc) in
+      let k = kept-either (adjacent R) symmetric M r state I y x v (C .even) ex (odd-label (state .label v) (cc)) (cc) (cc) z (cc) (cc) in
       cc (
-        below-arrays R r s rows state (at .standing .stands) I v z hv hz,
-        row-cell R r s rows state (at .standing .stands) I x z ex hz,
-        row-cell R r s rows state (at .standing .stands) I y z ey hz,
+        below-arrays R r s rows state (C .at .standing .stands) I v z hv hz,
+        row-cell R r s rows state (C .at .standing .stands) I x z ex hz,
+        row-cell R r s rows state (C .at .standing .stands) I y z (C .even) hz,
       )

@@ -2,6 +2,7 @@ pub mod ModelLaws
 pub mod AdjacencyLaws
 pub mod LabellingLaws
 pub mod RowLaws
+pub mod MendLaws
 pub mod AbsorbLaws
 pub mod StandingLaws
 pub mod GrowLaws
@@ -10,12 +11,15 @@ pub mod CycleLaws
 pub mod BlossomLaws
 pub mod KeptLaws
 pub mod BaseLaws
+pub mod ClimbLaws
 pub mod PromoteLaws
 pub mod WalkLaws
+pub mod ClosingLaws
 pub mod AttachLaws
 pub mod FirstLaws
 pub mod AroundLaws
 pub mod ScanLaws
+pub mod ExtendLaws
 pub mod SearchLaws
 pub mod StartLaws
 pub mod PairLaws

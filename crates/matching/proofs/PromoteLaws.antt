@@ -1,7 +1,7 @@
--- The test that a vertex comes to a blossom, and the loop over the vertices that become even.
+-- The loop over the vertices of a blossom that become even.
 use Prim.Native.Nat.{ℕ, zero, suc, _+_, _<_, _≤_}
 use mathlib.Core.Path.{_≡_, refl, _∙_}
-use mathlib.Core.Bool.{Bool, true, false, not, _&&_, _||_}
+use mathlib.Core.Bool.{Bool, not, _&&_, _||_}
 use mathlib.Core.List.{List}
 use native.Mathlib.Numerals.{add-one}
 use native.Mathlib.Omega.{arith}
@@ -11,23 +11,8 @@ use lib.Seq.{getD-set-same, getD-set-other}
 use borrow.Author.Tests.{eqb-false, ne-eqb, lt-ltb, le-ltb}
 use Rattle.ring.proofs.Cases.{yes, no, is, same, different, test, less, not-less, compare}
 use Rattle.ring.proofs.Counting.{sum, count, bit}
-use Rattle.matching.specs.Steps.{onCycle, joinsBlossom, Promoted}
+use Rattle.matching.specs.Steps.{onCycle, Promoted}
 use Rattle.matching.proofs.ModelLaws.{among-add}
-
--- the test that a vertex comes to the blossom, by the ways through the code
-module _ (labels mates bases sides : List ℕ) (z : ℕ) where
-  pub joins-side : (getD sides z 0 ≡ 0 → ⊥) → true ≡ joinsBlossom labels mates bases sides z
-  unfolding joinsBlossom
-  joins-side n = cc (ne-eqb (getD sides z 0) 0 n)
-
-  pub joins-not : getD sides z 0 ≡ 0 → (getD labels z 0 ≡ 1 → ⊥) → false ≡ joinsBlossom labels mates bases sides z
-  unfolding joinsBlossom
-  joins-not e n = cc (ne-eqb (getD labels z 0) 1 n)
-
-  pub joins-base : getD sides z 0 ≡ 0 → getD labels z 0 ≡ 1 → (b e : ℕ) → b ≡ getD bases z 0 → e ≡ getD mates b 0
-      → not (eqb (getD sides e 0) 0) ≡ joinsBlossom labels mates bases sides z
-  unfolding joinsBlossom
-  joins-base f g b e i j = cc
 
 -- sums over more numbers
 pub sum-more : (f : ℕ → ℕ) (a b : ℕ) → a ≤ b → sum f a ≤ sum f b

@@ -1,20 +1,21 @@
 -- Laws of the rows of a blossom, over plain lists.
 use Prim.Native.Nat.{ℕ, _+_, _<_, _≤_}
 use mathlib.Core.Path.{_≡_, refl, sym, ap, _∙_}
-use mathlib.Core.Bool.{Bool, true, false, not, cond, _||_}
+use mathlib.Core.Bool.{Bool, true, false, not, cond}
 use mathlib.Core.List.{List, []}
+use mathlib.Core.Logic.{_⊎_, ⊎-elim}
 use native.Mathlib.Decide.{decLt}
 use native.Mathlib.Omega.{arith}
 use lib.Dec.{eqb}
 use borrow.Author.Tests.{eq-eqb, ne-eqb, eqb-false}
 use lib.ListN.{length, getD, set, length-set}
-use lib.Seq.{getD-set-same, getD-set-other}
-use Rattle.ring.proofs.Cases.{same, different, test, impossible}
+use lib.Seq.{getD-set-same, getD-set-other, set-set}
+use Rattle.ring.proofs.Cases.{same, different, test}
 use Rattle.sets.specs.Sets.{has}
 use Rattle.blossom.proofs.Labels.{Free, Frozen}
 use Rattle.blossom.proofs.State.{below-test}
 use Rattle.matching.specs.Model.{labelOf}
-use Rattle.matching.specs.Rows.{cell, belowIn, mixedEntry, absorbedEntry, sideOf, Readable, AbsorbedRow, AbsorbedVertex}
+use Rattle.matching.specs.Rows.{cell, belowIn, mixedEntry, absorbedEntry, Readable, AbsorbedRow, AbsorbedVertex}
 use Rattle.matching.specs.Search.{Square}
 
 -- a vertex that is free or frozen is below none
@@ -59,28 +60,6 @@ module _ (rows : List (List ℕ)) (labels mates : List ℕ) (p q v z : ℕ) wher
   unfolding mixedEntry
   mixed-outer outer = rw outer
 
--- the side of a vertex, by its label and the two rows
-module _ (rows : List (List ℕ)) (labels mates : List ℕ) (x y v : ℕ) where
-  pub side-not-odd : (getD labels v 0 ≡ 2 → ⊥) → 0 ≡ sideOf rows labels mates x y v
-  unfolding sideOf
-  side-not-odd other = rw (ne-eqb (getD labels v 0) 2 other)
-
-  pub side-neither : getD labels v 0 ≡ 2 → cell rows x v ≡ getD mates v 0 → cell rows y v ≡ getD mates v 0 → 0 ≡ sideOf rows labels mates x y v
-  unfolding sideOf
-  side-neither odd at-x at-y = rw (odd, eq-eqb (cell rows x v) (getD mates v 0) at-x, eq-eqb (cell rows y v) (getD mates v 0) at-y)
-
-  pub side-second : getD labels v 0 ≡ 2 → cell rows x v ≡ getD mates v 0 → (cell rows y v ≡ getD mates v 0 → ⊥) → 2 ≡ sideOf rows labels mates x y v
-  unfolding sideOf
-  side-second odd at-x at-y = rw (odd, eq-eqb (cell rows x v) (getD mates v 0) at-x, ne-eqb (cell rows y v) (getD mates v 0) at-y)
-
-  pub side-first : getD labels v 0 ≡ 2 → (cell rows x v ≡ getD mates v 0 → ⊥) → cell rows y v ≡ getD mates v 0 → 1 ≡ sideOf rows labels mates x y v
-  unfolding sideOf
-  side-first odd at-x at-y = rw (odd, ne-eqb (cell rows x v) (getD mates v 0) at-x, eq-eqb (cell rows y v) (getD mates v 0) at-y)
-
-  pub side-both : getD labels v 0 ≡ 2 → (cell rows x v ≡ getD mates v 0 → ⊥) → (cell rows y v ≡ getD mates v 0 → ⊥) → 0 ≡ sideOf rows labels mates x y v
-  unfolding sideOf
-  side-both odd at-x at-y = rw (odd, ne-eqb (cell rows x v) (getD mates v 0) at-x, ne-eqb (cell rows y v) (getD mates v 0) at-y)
-
 -- a list as a loop fills it from the front with f
 abbrev pub Filled : (ℕ → ℕ) → List ℕ → ℕ → Type 0
 Filled f r n = (k : ℕ) → k < n → getD r k 0 ≡ f k
@@ -91,26 +70,6 @@ filled-turn f r n value filled room right k less = elim (test k n) [
   | different d ↦
       let other : k ≡ n → ⊥ = eqb-false k n (d .left) in
       getD-set-other r n k value 0 other ∙ filled k (omega arith)
-]
-
--- the entries below n that are not 0 are those of vertices in the set
-abbrev pub Covered : List ℕ → List ℕ → ℕ → Type 0
-Covered words r n = (k : ℕ) → k < n → has words k ≡ false → getD r k 0 ≡ 0
-
-pub covered-none : (words r : List ℕ) (n value : ℕ) → Covered words r n → n < length r → value ≡ 0 → Covered words (set r n value) (n + 1)
-covered-none words r n value C room zero k less e = elim (test k n) [
-  | same f t ↦ rw f (getD-set-same r n value 0 room ∙ zero)
-  | different d ↦
-      let other : k ≡ n → ⊥ = eqb-false k n (d .left) in
-      getD-set-other r n k value 0 other ∙ C k (omega arith) e
-]
-
-pub covered-one : (words after r : List ℕ) (n value : ℕ) → Covered words r n → ((k : ℕ) → has after k ≡ (eqb k n || has words k)) → Covered after (set r n value) (n + 1)
-covered-one words after r n value C more k less e = elim (test k n) [
-  | same f t ↦ impossible (cc (more k))
-  | different d ↦
-      let other : k ≡ n → ⊥ = eqb-false k n (d .left) in
-      getD-set-other r n k value 0 other ∙ C k (omega arith) (cc (more k))
 ]
 
 -- a list of g that a loop over a set makes one of f: the entries below n are done
@@ -143,25 +102,20 @@ module _ (f g : ℕ → ℕ) (set-of : List ℕ) (m : ℕ) (agree : (k : ℕ) �
       h l none
 
 -- an entry after a store
-entry-set : (r : List ℕ) (i a z : ℕ) → i < length r → getD (set r i a) z 0 ≡ cond (eqb z i) a (getD r z 0)
+pub entry-set : (r : List ℕ) (i a z : ℕ) → i < length r → getD (set r i a) z 0 ≡ cond (eqb z i) a (getD r z 0)
 entry-set r i a z room = elim (test z i) [
   | same e t ↦ rw (t, e) (getD-set-same r i a 0 room)
   | different d ↦ rw (d .left) (getD-set-other r i z a 0 (eqb-false z i (d .left)))
 ]
 
--- the end of a row that is mixed of two: p and q are paired, and v is exposed
+-- a row that is mixed of two, with p and q paired and v exposed
 pub row-end : (m : ℕ) (rows : List (List ℕ)) (labels mates : List ℕ) (p q v : ℕ) (r : List ℕ) → p < 512 → q < 512 → v < 512 → length r ≡ 512
-    → Filled (mixedEntry rows labels mates p q v) r m → AbsorbedRow m rows labels mates p q v (set (set (set r q p) p q) v v)
+    → Filled (mixedEntry rows labels mates p q v) r m → Filled (absorbedEntry rows labels mates p q v) (set (set (set r q p) p q) v v) m
 unfolding mixedEntry absorbedEntry
-row-end m rows labels mates p q v r lp lq lv wide filled =
-    record {
-      wide = simp length-set wide;
-      entries =
-          λ z less.
-          entry-set (set (set r q p) p q) v v z (simp length-set (omega arith))
-          ∙ ap (cond (eqb z v) v)
-          (entry-set (set r q p) p q z (simp length-set (omega arith)) ∙ ap (cond (eqb z p) q) (entry-set r q p z (omega arith) ∙ ap (cond (eqb z q) p) (filled z less)));
-    }
+row-end m rows labels mates p q v r lp lq lv wide filled z less =
+    entry-set (set (set r q p) p q) v v z (simp length-set (omega arith))
+    ∙ ap (cond (eqb z v) v)
+    (entry-set (set r q p) p q z (simp length-set (omega arith)) ∙ ap (cond (eqb z p) q) (entry-set r q p z (omega arith) ∙ ap (cond (eqb z q) p) (filled z less)))
 
 -- a row of the right length may be stored
 pub square-set : (m : ℕ) (rows : List (List ℕ)) (v : ℕ) (r : List ℕ) → Square m rows → v < m → length r ≡ 512 → Square m (set rows v r)
@@ -177,31 +131,46 @@ square-set m rows v r square inside wide =
           ];
     }
 
+-- a row that has been stored and is changed in place
+pub changed-row : (rows now : List (List ℕ)) (v : ℕ) (r : List ℕ) (change : List ℕ → List ℕ) → v < length rows → now ≡ set rows v r
+    → set now v (change (getD now v [])) ≡ set rows v (change r)
+changed-row rows now v r change room stored = rw (stored, getD-set-same rows v r [] room) (set-set rows v r (change r))
+
+-- a vertex that is on a side is odd
+pub on-side : {side label : ℕ} (n : ℕ) → eqb 0 n ≡ false → side ≡ n → (side ≡ 0) ⊎ (label ≡ 2) → label ≡ 2
+on-side n some on = ⊎-elim (λ off. absurd (eqb-false 0 n some (sym off ∙ on))) (λ odd. odd)
+
 -- one vertex that is on a side: its row is stored
-module _ (m : ℕ) (rows : List (List ℕ)) (labels mates : List ℕ) (side x y v : ℕ) (square : Square m rows) where
-  module _ (inside : v < m) (r : List ℕ) where
-    stored : (z : ℕ) → cell (set rows v r) v z ≡ getD r z 0
-    stored z = ap (λ (l : List ℕ). getD l z 0) (getD-set-same rows v r [] (omega (arith, square .many)))
+module _ (m : ℕ) (rows after : List (List ℕ)) (labels mates : List ℕ) (side x y v : ℕ) (square : Square m rows) (inside : v < m) where
+  module _ (p q : ℕ) (row : AbsorbedRow m rows after labels mates p q v) where
+    after-square : Square m after
+    after-square = rw (row .stored) (square-set m rows v (row .row) square inside (row .wide))
 
-    pub vertex-first : side ≡ 1 → AbsorbedRow m rows labels mates x y v r → AbsorbedVertex m rows (set rows v r) labels mates side x y v
-    vertex-first first row =
-        record {
-          square = square-set m rows v r square inside (row .wide);
-          others = λ w h. getD-set-other rows v w r [] h;
-          unmoved = λ h. absurd (eqb-false 0 1 refl (sym h ∙ first));
-          first = λ h z less. stored z ∙ row .entries z less;
-          second = λ h. absurd (eqb-false 2 1 refl (sym h ∙ first));
-        }
+    after-others : (w : ℕ) → (w ≡ v → ⊥) → getD after w [] ≡ getD rows w []
+    after-others w h = rw (row .stored) (getD-set-other rows v w (row .row) [] h)
 
-    pub vertex-second : side ≡ 2 → AbsorbedRow m rows labels mates y x v r → AbsorbedVertex m rows (set rows v r) labels mates side x y v
-    vertex-second second row =
-        record {
-          square = square-set m rows v r square inside (row .wide);
-          others = λ w h. getD-set-other rows v w r [] h;
-          unmoved = λ h. absurd (eqb-false 0 2 refl (sym h ∙ second));
-          first = λ h. absurd (eqb-false 1 2 refl (sym h ∙ second));
-          second = λ h z less. stored z ∙ row .entries z less;
-        }
+    after-entries : (z : ℕ) → z < m → cell after v z ≡ absorbedEntry rows labels mates p q v z
+    after-entries z less = rw (row .stored, getD-set-same rows v (row .row) [] (omega (arith, square .many))) (row .entries z less)
+
+  pub vertex-first : side ≡ 1 → AbsorbedRow m rows after labels mates x y v → AbsorbedVertex m rows after labels mates side x y v
+  vertex-first first row =
+      record {
+        square = after-square x y row;
+        others = after-others x y row;
+        unmoved = λ h. absurd (eqb-false 0 1 refl (sym h ∙ first));
+        first = λ h. after-entries x y row;
+        second = λ h. absurd (eqb-false 2 1 refl (sym h ∙ first));
+      }
+
+  pub vertex-second : side ≡ 2 → AbsorbedRow m rows after labels mates y x v → AbsorbedVertex m rows after labels mates side x y v
+  vertex-second second row =
+      record {
+        square = after-square y x row;
+        others = after-others y x row;
+        unmoved = λ h. absurd (eqb-false 0 2 refl (sym h ∙ second));
+        first = λ h. absurd (eqb-false 1 2 refl (sym h ∙ second));
+        second = λ h. after-entries y x row;
+      }
 
 pub readable-turned : {m : ℕ} {labels mates : List ℕ} {x y : ℕ} → Readable m labels mates x y → Readable m labels mates y x
 readable-turned h =

@@ -8,20 +8,23 @@ use native.Mathlib.Numerals.{add-one}
 use native.Mathlib.Omega.{arith}
 use lib.Dec.{eqb}
 use lib.ListN.{length, getD}
-use borrow.Author.Tests.{eqb-true, ne-eqb}
+use borrow.Author.Tests.{eqb-true}
 use Rattle.ring.proofs.Cases.{yes, no, is, impossible}
 use Rattle.ring.specs.declared.requests.Request.{Request}
+use Rattle.ring.specs.Requests.{requestsOf}
 use Rattle.blossom.proofs.Labels.{Label, Free, Even, Odd, Frozen, even?}
 use Rattle.blossom.proofs.Rows.{Symmetric}
 use Rattle.blossom.proofs.Scanning.{scan-begin, scan-end, scan-skip}
+use Rattle.neighbours.specs.Neighbours.{Neighbours}
 use Rattle.matching.specs.Arrays.{Arrays}
 use Rattle.matching.specs.Adjacency.{adjacent}
-use Rattle.matching.specs.Model.{entry, labelOf, among}
-use Rattle.matching.specs.Search.{Standing, SearchAt, ScanAt}
-use Rattle.matching.specs.Progress.{freeIn, relevantIn, First}
+use Rattle.matching.specs.Model.{entry, labelOf}
+use Rattle.matching.specs.Search.{Standing, SearchAt, ScanAt, Outcome}
+use Rattle.matching.specs.Progress.{relevantIn, First, Reached, Stepped}
 use Rattle.matching.proofs.ModelLaws.{entry-inside, labelAt-inside, among-at}
-use Rattle.matching.proofs.AdjacencyLaws.{adjacent-inside}
-use Rattle.matching.proofs.StandingLaws.{even-inside, label-number}
+use Rattle.matching.proofs.AdjacencyLaws.{adjacent-symmetric, adjacent-inside}
+use Rattle.matching.proofs.AroundLaws.{relevant, first-relevant}
+use Rattle.matching.proofs.StandingLaws.{even-inside}
 use Rattle.matching.proofs.CycleLaws.{is-even-number, is-free-number, label-inside}
 
 even-label : (l : Label) → even? l ≡ true → l ≡ Even
@@ -42,8 +45,8 @@ relevant-by false true false true e = refl
 relevant-by false true false false e = cc
 relevant-by false false same adj e = cc
 
-pub relevant-neighbour : (R : List Request) (labels bases : List ℕ) (x y : ℕ) → relevantIn R labels bases x y ≡ true → adjacent R x y ≡ true
-unfolding relevantIn
+relevant-neighbour : (R : List Request) (labels bases : List ℕ) (x y : ℕ) → relevant R labels bases x y ≡ true → adjacent R x y ≡ true
+unfolding relevant
 relevant-neighbour R labels bases x y e =
     relevant-by (eqb (getD labels y 0) 0) (eqb (getD labels y 0) 1) (eqb (getD bases x 0) (getD bases y 0)) (adjacent R x y) e
 
@@ -56,21 +59,9 @@ relevant-small n same adj e = elim (is (eqb n 0)) [
   ]
 ]
 
-pub relevant-label : (R : List Request) (labels bases : List ℕ) (x y : ℕ) → relevantIn R labels bases x y ≡ true → getD labels y 0 < 2
-unfolding relevantIn
+relevant-label : (R : List Request) (labels bases : List ℕ) (x y : ℕ) → relevant R labels bases x y ≡ true → getD labels y 0 < 2
+unfolding relevant
 relevant-label R labels bases x y e = relevant-small (getD labels y 0) (eqb (getD bases x 0) (getD bases y 0)) (adjacent R x y) e
-
-pub free-neighbour : (R : List Request) (labels : List ℕ) (x y : ℕ) → freeIn R labels x y ≡ true → adjacent R x y ≡ true
-unfolding freeIn
-free-neighbour R labels x y e = elim (is (eqb (getD labels y 0) 0)) [ yes f ↦ cc | no f ↦ cc ]
-
-pub free-label : (R : List Request) (labels : List ℕ) (x y : ℕ) → freeIn R labels x y ≡ true → getD labels y 0 ≡ 0
-unfolding freeIn
-free-label R labels x y e = elim (is (eqb (getD labels y 0) 0)) [ yes f ↦ eqb-true (getD labels y 0) 0 f | no f ↦ impossible (cc) ]
-
-pub free-not : (R : List Request) (labels : List ℕ) (x y : ℕ) → (getD labels y 0 ≡ 0 → ⊥) → false ≡ freeIn R labels x y
-unfolding freeIn
-free-not R labels x y n = cc (ne-eqb (getD labels y 0) 0 n)
 
 irrelevant-even : (same adj : Bool) → ((false || true && not same) && adj) ≡ false → adj ≡ true → same ≡ true
 irrelevant-even true adj e f = refl
@@ -86,15 +77,15 @@ module _ (R : List Request) (symmetric : Symmetric (adjacent R)) (r : ℕ) (s : 
     queued-even i l = even-label (S .standing .state .label (getD (s .queue) i 0))
         (S .standing .stands .queued (getD (s .queue) i 0) ∙ among-at (s .queue) (s .clock) i l)
 
-    pub scan-starts : h < s .clock → ScanAt R r s rows h (getD (s .queue) h 0) 0
-    scan-starts l = record {
+    pub scan-starts : h < s .clock → (x : ℕ) → x ≡ getD (s .queue) h 0 → ScanAt R r s rows h x 0
+    scan-starts l x e = record {
       standing = S .standing;
       scanned = S .scanned;
       scanned-is = S .scanned-is;
       next = l;
-      current = refl;
+      current = e;
       scanning = scan-begin (adjacent R) (entry m (s .mates)) (S .standing .frozen-label) (S .standing .frozen-base) r (S .standing .state) (S .scanned)
-          (S .searching) (getD (s .queue) h 0) (queued-even h l);
+          (S .searching) x (rw e (queued-even h l));
     }
 
   module _ (x n : ℕ) (at : ScanAt R r s rows h x n) where
@@ -105,8 +96,8 @@ module _ (R : List Request) (symmetric : Symmetric (adjacent R)) (r : ℕ) (s : 
         (T .stands .queued (getD (s .queue) i 0) ∙ among-at (s .queue) (s .clock) i l))
 
     -- nothing to do at n
-    pub scan-passes : n < length R → relevantIn R (s .labels) (s .bases) x n ≡ false → ScanAt R r s rows h x (n + 1)
-    unfolding relevantIn
+    pub scan-passes : n < length R → relevant R (s .labels) (s .bases) x n ≡ false → ScanAt R r s rows h x (n + 1)
+    unfolding relevant
     scan-passes l e =
         let T = at .standing in let ex = at .scanning .partly .x-even in
         let hx = even-inside R s rows (T .state) (T .stands) x ex in
@@ -159,7 +150,7 @@ step-later n k z a b = (omega arith, omega arith)
 
 -- nothing to do at the next k vertices
 pub scan-passes-to : (R : List Request) → Symmetric (adjacent R) → (r : ℕ) (s : Arrays) (rows : List (List ℕ)) (h x k n : ℕ) → ScanAt R r s rows h x n
-    → n + k ≤ length R → ((z : ℕ) → n ≤ z → z < n + k → relevantIn R (s .labels) (s .bases) x z ≡ false) → ScanAt R r s rows h x (n + k)
+    → n + k ≤ length R → ((z : ℕ) → n ≤ z → z < n + k → relevant R (s .labels) (s .bases) x z ≡ false) → ScanAt R r s rows h x (n + k)
 scan-passes-to R symmetric r s rows h x Prim.Native.Nat.zero n here l e = subst (λ (w : ℕ). ScanAt R r s rows h x w) (sym (add-zero n)) here
 scan-passes-to R symmetric r s rows h x (suc k) n here l e =
     let i = step-inside n k (length R) l in
@@ -168,8 +159,8 @@ scan-passes-to R symmetric r s rows h x (suc k) n here l e =
     subst (λ (w : ℕ). ScanAt R r s rows h x w) (moved n k)
     (scan-passes-to R symmetric r s rows h x k (n + 1) next (i .1) (λ z a b. let j = step-later n k z a b in e z (j .0) (j .1)))
 
-pub scan-passes-first : (R : List Request) → Symmetric (adjacent R) → (r : ℕ) (s : Arrays) (rows : List (List ℕ)) (h x n : ℕ) → ScanAt R r s rows h x n
-    → (m next : ℕ) → m ≡ length R → First (relevantIn R (s .labels) (s .bases) x) n m next → ScanAt R r s rows h x next
+scan-passes-first : (R : List Request) → Symmetric (adjacent R) → (r : ℕ) (s : Arrays) (rows : List (List ℕ)) (h x n : ℕ) → ScanAt R r s rows h x n
+    → (m next : ℕ) → m ≡ length R → First (relevant R (s .labels) (s .bases) x) n m next → ScanAt R r s rows h x next
 scan-passes-first R symmetric r s rows h x n here m next number F =
     subst (λ (w : ℕ). ScanAt R r s rows h x w) (together n next (F .least)) (scan-passes-to R symmetric r s rows h x (next - n) n here
     (rw (together n next (F .least)) (within next m (length R) (F .most) number)) (λ z a b. F .passed z a (rw (together n next (F .least)) at b)))
@@ -181,13 +172,56 @@ scan-passes-first R symmetric r s rows h x n here m next number F =
     within next m k a b = omega arith
 
 -- an even vertex has the label 1
-even-number : (R : List Request) (r : ℕ) (s : Arrays) (rows : List (List ℕ)) (T : Standing R r s rows) (x : ℕ) → T .state .label x ≡ Even → getD (s .labels) x 0 ≡ 1
+pub even-number : (R : List Request) (r : ℕ) (s : Arrays) (rows : List (List ℕ)) (T : Standing R r s rows) (x : ℕ) → T .state .label x ≡ Even → getD (s .labels) x 0 ≡ 1
 even-number R r s rows T x e =
     let l = even-inside R s rows (T .state) (T .stands) x e in
     eqb-true (getD (s .labels) x 0) 1 (sym (is-even-number (getD (s .labels) x 0)) ∙ ap even? (sym (T .stands .label-is x ∙ labelAt-inside (length R) (s .labels) x l) ∙ e))
 
-pub scan-number : (R : List Request) (r : ℕ) (s : Arrays) (rows : List (List ℕ)) (h x n : ℕ) → ScanAt R r s rows h x n → getD (s .labels) x 0 ≡ 1
+scan-number : (R : List Request) (r : ℕ) (s : Arrays) (rows : List (List ℕ)) (h x n : ℕ) → ScanAt R r s rows h x n → getD (s .labels) x 0 ≡ 1
 scan-number R r s rows h x n here = even-number R r s rows (here .standing) x (here .scanning .partly .x-even)
+
+-- x is being scanned, and y is the next of its neighbours that is free, or even and of another class, or m
+pub record Scanned (R : List Request) (r : ℕ) (s : Arrays) (rows : List (List ℕ)) (h x y m : ℕ) (around : List ℕ) : Type 0 where
+  pub at : ScanAt R r s rows h x y
+  pub number : m ≡ length R
+  pub neighbours : Neighbours R x around
+  pub most : y ≤ m
+  pub relevant-next : y < m → relevant R (s .labels) (s .bases) x y ≡ true
+
+pub scan-next : (R : List Request) → Symmetric (adjacent R) → (r : ℕ) (s : Arrays) (rows : List (List ℕ)) (h x n m next : ℕ) (around : List ℕ) → ScanAt R r s rows h x n
+    → m ≡ length R → Neighbours R x around → First (relevantIn around (s .labels) (s .bases) x) n m next → Scanned R r s rows h x next m around
+scan-next R symmetric r s rows h x n m next around here e N F =
+    let inside = even-inside R s rows (here .standing .state) (here .standing .stands) x (here .scanning .partly .x-even) in
+    let first = first-relevant R around (s .labels) (s .bases) x N (scan-number R r s rows h x n here) inside n m next e F in
+    record { at = scan-passes-first R symmetric r s rows h x n here m next e first; number = e; neighbours = N; most = F .most; relevant-next = first .found }
+
+pub scan-reached : (R : List Request) (r : ℕ) (s : Arrays) (rows : List (List ℕ)) (h x y m : ℕ) (around : List ℕ) → Scanned R r s rows h x y m around → y < m
+    → Reached R r s rows h x y m × (getD (s .labels) y 0 < 2)
+scan-reached R r s rows h x y m around S l =
+    let e = S .relevant-next l in
+    (record { at = S .at; number = S .number; inside = l; neighbour = relevant-neighbour R (s .labels) (s .bases) x y e }, relevant-label R (s .labels) (s .bases) x y e)
+
+module _ (ends : List ℕ) (r : ℕ) (s : Arrays) (rows : List (List ℕ)) (h x y m : ℕ) (around : List ℕ) (S : Scanned (requestsOf ends) r s rows h x y m around) where
+  -- the edge to y is taken
+  module _ (l : y < m) (t : Arrays) (after : List (List ℕ)) (done : Bool) (stepped : Stepped s rows x y m t after done) where
+    outcome : Outcome (requestsOf ends) r t after done (ScanAt (requestsOf ends) r t after h x (y + 1))
+    outcome = stepped ends r h (scan-reached (requestsOf ends) r s rows h x y m around S l .0)
+
+    pub scan-enlarges : done ≡ true → Outcome (requestsOf ends) r t after done (SearchAt (requestsOf ends) r t after (h + 1))
+    scan-enlarges e = record { square = outcome .square; enlarged = outcome .enlarged; going = λ d. impossible (sym e ∙ d) }
+
+    pub scan-goes-on : done ≡ false → (next : ℕ) → First (relevantIn around (t .labels) (t .bases) x) (y + 1) m next
+        → Scanned (requestsOf ends) r t after h x next m around
+    scan-goes-on d next F =
+        scan-next (requestsOf ends) (adjacent-symmetric ends) r t after h x (y + 1) m next around (outcome .going d) (S .number) (S .neighbours) F
+
+  -- there is none
+  pub scan-ends : m ≤ y → Outcome (requestsOf ends) r s rows false (SearchAt (requestsOf ends) r s rows (h + 1))
+  scan-ends l = record {
+    square = S .at .standing .square;
+    enlarged = λ d. impossible (sym d);
+    going = λ d. scan-finishes (requestsOf ends) (adjacent-symmetric ends) r s rows h x y (S .at) (omega (arith, S .number, S .most));
+  }
 
 -- a queued vertex is one of the requests, and has the label 1
 module _ (R : List Request) (symmetric : Symmetric (adjacent R)) (r : ℕ) (s : Arrays) (rows : List (List ℕ)) (h : ℕ) (S : SearchAt R r s rows h) (i : ℕ) (l : i < s .clock) where
@@ -196,9 +230,3 @@ module _ (R : List Request) (symmetric : Symmetric (adjacent R)) (r : ℕ) (s : 
 
   pub queued-number : getD (s .labels) (getD (s .queue) i 0) 0 ≡ 1
   queued-number = even-number R r s rows (S .standing) (getD (s .queue) i 0) (queued-even R symmetric r s rows h S i l)
-
--- every even vertex is queued
-pub even-queued : (R : List Request) (r : ℕ) (s : Arrays) (rows : List (List ℕ)) (T : Standing R r s rows) (z : ℕ) → z < length R → getD (s .labels) z 0 ≡ 1
-    → among (s .queue) (s .clock) z ≡ true
-unfolding labelOf
-even-queued R r s rows T z l e = sym (T .stands .queued z) ∙ ap even? (label-number R s rows (T .state) (T .stands) z 1 l e)

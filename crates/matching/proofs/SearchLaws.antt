@@ -38,7 +38,7 @@ begun-label n = elim (compare n 3) [
       elim (is (eqb n 3)) [ yes f ↦ cc | no f ↦ cc ]
 ]
 
-begun-settled : (n : ℕ) → settledOf (unlabelled n) ≡ settledOf n
+pub begun-settled : (n : ℕ) → settledOf (unlabelled n) ≡ settledOf n
 unfolding settledOf
 begun-settled n = elim (compare n 3) [ less h e ↦ cc | not-less h e ↦ cc ]
 
@@ -222,14 +222,15 @@ module _ (R : List Request) (symmetric : Symmetric (adjacent R)) (r : ℕ) (s : 
         (at .searching) all-scanned);
   }
 
--- between searches the parents and the queue say nothing
-pub rested : (R : List Request) (s : Arrays) (parents queue : List ℕ) (clock n : ℕ) → length parents ≡ 512 → length queue ≡ 512 → Settled R s n
-    → Settled R (arrays (s .mates) (s .labels) (s .bases) parents queue clock) n
-rested R s parents queue clock n p q S = record {
+-- between searches the parents and the queue say nothing, and of the labels only those of frozen vertices do
+pub settled-alike : (R : List Request) (s : Arrays) (labels parents queue : List ℕ) (clock n : ℕ) → length labels ≡ 512 → length parents ≡ 512 → length queue ≡ 512
+    → ((z : ℕ) → settledAt (length R) (s .labels) z ≡ settledAt (length R) labels z) → Settled R s n
+    → Settled R (arrays (s .mates) labels (s .bases) parents queue clock) n
+settled-alike R s labels parents queue clock n l p q alike S = record {
   sized = record {
     few = S .sized .few;
     mates = S .sized .mates;
-    labels = S .sized .labels;
+    labels = l;
     bases = S .sized .bases;
     parents = p;
     queue = q;
@@ -237,7 +238,11 @@ rested R s parents queue clock n p q S = record {
   };
   label = S .label;
   base = S .base;
-  label-is = S .label-is;
+  label-is = λ z. S .label-is z ∙ alike z;
   base-is = S .base-is;
   between = S .between;
 }
+
+pub rested : (R : List Request) (s : Arrays) (parents queue : List ℕ) (clock n : ℕ) → length parents ≡ 512 → length queue ≡ 512 → Settled R s n
+    → Settled R (arrays (s .mates) (s .labels) (s .bases) parents queue clock) n
+rested R s parents queue clock n p q S = settled-alike R s (s .labels) parents queue clock n (S .sized .labels) p q (λ z. refl) S

@@ -1,8 +1,9 @@
 -- The greedy start keeps a matching, and with all labels free it is what a first search begins from.
-use Prim.Native.Nat.{ℕ, suc, _+_, _<_, _≤_}
+use Prim.Native.Nat.{ℕ, _+_, _<_, _≤_}
 use mathlib.Core.Path.{_≡_, refl, ap, _∙_}
 use mathlib.Core.Bool.{Bool, true, false, _||_}
 use mathlib.Core.List.{List}
+use mathlib.Core.Logic.{_⊎_, inl, inr}
 use native.Mathlib.Omega.{arith}
 use lib.Dec.{eqb}
 use lib.ListN.{length, getD, set, length-set, replicate, getD-replicate, length-replicate}
@@ -11,6 +12,8 @@ use borrow.Author.Tests.{eqb-false}
 use Rattle.ring.specs.declared.requests.Request.{Request}
 use Rattle.ring.specs.Requests.{requestsOf}
 use Rattle.ring.proofs.Cases.{same, different, eqb-refl, test, less, not-less, compare}
+use Rattle.sets.specs.Sets.{has}
+use Rattle.neighbours.specs.Neighbours.{Neighbours}
 use Rattle.blossom.proofs.Labels.{Free}
 use Rattle.blossom.proofs.Rows.{Symmetric, Mates, paired, paired-is-row}
 use Rattle.blossom.proofs.Search.{between-start}
@@ -20,6 +23,7 @@ use Rattle.matching.specs.Model.{entry, settledOf, settledAt}
 use Rattle.matching.specs.Search.{Settled}
 use Rattle.matching.specs.Start.{Identity, Matched, Partner}
 use Rattle.matching.proofs.AdjacencyLaws.{adjacent-symmetric}
+use Rattle.matching.proofs.AroundLaws.{around-some}
 use Rattle.matching.proofs.ModelLaws.{entry-inside, entry-set}
 
 -- one turn of the loop that writes every number to its own place
@@ -68,6 +72,12 @@ module _ (R : List Request) (mates : List ℕ) (i : ℕ) where
       either true e = refl
       either false e = e
 
+  -- the best so far, or one of the set of neighbours that is exposed
+  pub partner-better : (around : List ℕ) (best j r : ℕ) → Neighbours R i around → i < length R → j < length R → has around j ≡ true → Partner R mates i best
+      → (r ≡ best) ⊎ ((r ≡ j) × (i ≡ j → ⊥) × (getD mates j 0 ≡ j)) → Partner R mates i r
+  partner-better around best j r N k l member P (inl e) = rw e P
+  partner-better around best j r N k l member P (inr (e, other, exposed)) = rw e (partner-found j l exposed (around-some R i around j N k l other member))
+
 -- the stores of `pair_up`
 pub matched-paired : (ends mates : List ℕ) (i j : ℕ) → Matched (requestsOf ends) mates → i < length (requestsOf ends) → getD mates i 0 ≡ i
     → Partner (requestsOf ends) mates i j → Matched (requestsOf ends) (set (set mates i j) j i)
@@ -94,12 +104,6 @@ matched-identity R mates few own = record {
   places = own .places;
   mates-are = mates-agree (adjacent R) (λ z. z) _ (identity-entry (length R) mates few own) (mates-exposed (adjacent R));
 }
-
--- every entry of a list that repeats one number
-pub repeated : (k z a : ℕ) → getD (replicate k a) z a ≡ a
-repeated Prim.Native.Nat.zero z a = refl
-repeated (suc k) Prim.Native.Nat.zero a = refl
-repeated (suc k) (suc z) a = repeated k z a
 
 -- labels of zeros are all free
 zeros-free : (m z : ℕ) → m ≤ 512 → Free ≡ settledAt m (replicate 512 0) z

@@ -1,144 +1,177 @@
--- The walk up the tree from x, base by base, to the base of the blossom that the edge from x to y closes.
-use Prim.Native.Nat.{ℕ, _-_, _<_}
-use mathlib.Core.Path.{_≡_, ap, _∙_}
-use mathlib.Core.Bool.{Bool, true, not}
+-- The walks up the tree from the ends x and y of an edge that closes a blossom, in the words of the theory.
+use Prim.Native.Nat.{ℕ, zero, suc, _+_, _<_}
+use mathlib.Core.Path.{_≡_, refl, sym, ap, _∙_}
+use mathlib.Core.Bool.{Bool, true, false, not, cond, _&&_, _||_}
 use mathlib.Core.List.{List}
-use mathlib.Core.Logic.{_⊎_, inl, inr}
 use native.Mathlib.Omega.{arith}
 use lib.Dec.{eqb}
 use lib.ListN.{length, getD}
-use borrow.Author.Tests.{eqb-true, lt-ltb}
-use Rattle.ring.proofs.Cases.{yes, no, is}
+use Rattle.ring.proofs.Cases.{same, different, eqb-refl, test, keep-apart, two}
 use Rattle.ring.specs.declared.requests.Request.{Request}
-use Rattle.blossom.proofs.Labels.{Even, Odd, odd?}
+use Rattle.sets.specs.Sets.{has}
+use Rattle.blossom.proofs.Labels.{Even, Odd}
 use Rattle.blossom.proofs.Rows.{Symmetric}
-use Rattle.blossom.proofs.State.{State}
-use Rattle.blossom.proofs.Cycle.{cycle, cycle-odd, Walk, walk-start, walk-step, walk-less}
+use Rattle.blossom.proofs.State.{State, below, Invariant}
+use Rattle.blossom.proofs.Cycle.{cycle, Walk, walk-less}
+use Rattle.blossom.proofs.Climbing.{Climbing, sided, climb-begin, climb-odd, climb-next, climb-marks, climb-ends, climb-walk}
 use Rattle.matching.specs.Arrays.{Arrays}
 use Rattle.matching.specs.Adjacency.{adjacent}
-use Rattle.matching.specs.Model.{entry, labelOf}
-use Rattle.matching.specs.Rows.{sideOf, Readable}
-use Rattle.matching.specs.Search.{Stands, ScanAt}
-use Rattle.matching.specs.Steps.{onCycle}
+use Rattle.matching.specs.Climbs.{baseAbove, baseAfter, visited, passed, goesOn, went, Marks, Climbable, Climbed}
+use Rattle.matching.specs.Model.{entry}
+use Rattle.matching.specs.Search.{Standing, ScanAt}
 use Rattle.matching.proofs.ModelLaws.{entry-inside}
-use Rattle.matching.proofs.StandingLaws.{even-inside, mate-inside, label-number}
-use Rattle.matching.proofs.CycleLaws.{is-even-number, is-odd-number, side-of-other, label-inside}
-use Rattle.matching.proofs.BlossomLaws.{on}
+use Rattle.matching.proofs.StandingLaws.{even-inside, mate-inside, clock-most}
+use Rattle.matching.proofs.CycleLaws.{row-below}
 
--- b is a base on the walk, and its order is below `left`
-pub record Climb (R : List Request) (r : ℕ) (s : Arrays) (rows : List (List ℕ)) (h x y b left : ℕ) : Type 0 where
-  pub at : ScanAt R r s rows h x y
-  pub even : at .standing .state .label y ≡ Even
-  pub neighbour : adjacent R x y ≡ true
-  pub walk : Walk (entry (length R) (s .mates)) (at .standing .state) (cycle (entry (length R) (s .mates)) (at .standing .state) x y) x b
-  pub less : at .standing .state .order b < left
+pub scan-inside : (R : List Request) → Symmetric (adjacent R) → (r : ℕ) (s : Arrays) (rows : List (List ℕ)) (h x y : ℕ) → ScanAt R r s rows h x y → x < length R
+scan-inside R symmetric r s rows h x y at = even-inside R s rows (at .standing .state) (at .standing .stands) x (at .scanning .partly .x-even)
 
-module _ (R : List Request) (symmetric : Symmetric (adjacent R)) (r : ℕ) (s : Arrays) (rows : List (List ℕ)) (h x y : ℕ) where
+both : (a b : Bool) → (a && b) ≡ true → two a b ≡ two true true
+both true b e = cc
+both false b e = cc
+
+neither : (a b : Bool) → (not a && not b) ≡ true → two a b ≡ two false false
+neither true b e = cc
+neither false true e = cc
+neither false false e = refl
+
+either : (a b : Bool) → (not a && not b) ≡ false → (a || b) ≡ true
+either true b e = refl
+either false true e = refl
+either false false e = cc
+
+-- the walk up from x against y
+module _ (R : List Request) (symmetric : Symmetric (adjacent R)) (r : ℕ) (s : Arrays) (rows : List (List ℕ)) (T : Standing R r s rows)
+    (I : Invariant (adjacent R) (entry (length R) (s .mates)) r (T .state)) (x y : ℕ) (ex : T .state .label x ≡ Even) (ey : T .state .label y ≡ Even) where
   abbrev m : ℕ
   m = length R
 
   abbrev M : ℕ → ℕ
   M = entry (length R) (s .mates)
 
-  pub scan-inside : ScanAt R r s rows h x y → x < length R
-  scan-inside at = even-inside R s rows (at .standing .state) (at .standing .stands) x (at .scanning .partly .x-even)
+  abbrev state : State
+  state = T .state
 
-  pub even-number : (at : ScanAt R r s rows h x y) → y < length R → getD (s .labels) y 0 ≡ 1 → at .standing .state .label y ≡ Even
-  unfolding labelOf
-  even-number at l e = label-number R s rows (at .standing .state) (at .standing .stands) y 1 l e
-
-  pub climb-start : (at : ScanAt R r s rows h x y) → y < length R → getD (s .labels) y 0 ≡ 1 → adjacent R x y ≡ true
-      → Climb R r s rows h x y (getD (s .bases) x 0) (s .clock)
-  climb-start at l e a =
-      let T = at .standing in let state = T .state in let I = at .scanning .search .invariant in let ex = at .scanning .partly .x-even in
-      let b : state .base x ≡ getD (s .bases) x 0 = T .stands .base-is x ∙ entry-inside m (s .bases) x (scan-inside at) in
-      record {
-        at = at;
-        even = even-number at l e;
-        neighbour = a;
-        walk = rw b at (walk-start (adjacent R) symmetric M r state I (cycle M state x y) x ex);
-        less = let o : state .order (state .base x) < s .clock = omega (arith, I .order-base x ex, I .order-clock x ex, T .stands .clock-is) in rw b at o;
-      }
-
-  module _ (b left : ℕ) (C : Climb R r s rows h x y b left) where
-    abbrev state : State
-    state = C .at .standing .state
-
-    abbrev S : Stands R s rows state
-    S = C .at .standing .stands
-
-    abbrev A : ℕ → Bool
-    A = cycle M state x y
-
-    pub climb-inside : b < length R
-    climb-inside = even-inside R s rows state S b (cc (C .walk .is-base))
+  module _ (marked : ℕ → Bool) (b : ℕ) (C : Climbing M state x y marked b) where
+    inside : b < m
+    inside = even-inside R s rows state (T .stands) b (cc (C .is-base))
 
     mate-is : M b ≡ getD (s .mates) b 0
-    mate-is = entry-inside m (s .mates) b climb-inside
+    mate-is = entry-inside m (s .mates) b inside
 
-    pub climb-mate : getD (s .mates) b 0 < length R
-    climb-mate = mate-inside R r s rows (C .at .standing) b climb-inside
+    mate-in : getD (s .mates) b 0 < m
+    mate-in = mate-inside R r s rows T b inside
 
-    pub climb-on : (sides : List ℕ) → ((v : ℕ) → v < length R → getD sides v 0 ≡ sideOf rows (s .labels) (s .mates) x y v)
-        → not (eqb (getD sides (getD (s .mates) b 0) 0) 0) ≡ cycle (entry (length R) (s .mates)) (C .at .standing .state) x y (entry (length R) (s .mates) b)
-    unfolding onCycle
-    climb-on sides sided = cc (on R symmetric r s rows h x y (C .at) (C .even) (C .neighbour) sides sided (getD (s .mates) b 0), lt-ltb (getD (s .mates) b 0) m climb-mate, mate-is)
+    goes-on : goesOn rows (s .mates) y b ≡ (not (eqb (M b) b) && not (below M state (M b) y))
+    unfolding goesOn
+    goes-on = cc (mate-is, row-below R r s rows state (T .stands) I y (getD (s .mates) b 0) ey mate-in)
 
-    module _ (on-it : A (M b) ≡ true) where
+    module _ (on : goesOn rows (s .mates) y b ≡ true) where
+      free : two (eqb (M b) b) (below M state (M b) y) ≡ two false false
+      free = neither (eqb (M b) b) (below M state (M b) y) (sym goes-on ∙ on)
+
       mate-odd : state .label (M b) ≡ Odd
-      mate-odd = cycle-odd M state x y (M b) on-it
+      mate-odd = climb-odd (adjacent R) symmetric M r state I x y ex ey marked b C (cc free)
 
       parent-is : state .parent (M b) ≡ getD (s .parents) (getD (s .mates) b 0) 0
-      parent-is = S .parent-is (M b) mate-odd ∙ (ap (entry m (s .parents)) mate-is ∙ entry-inside m (s .parents) (getD (s .mates) b 0) climb-mate)
+      parent-is = T .stands .parent-is (M b) mate-odd ∙ (ap (entry m (s .parents)) mate-is ∙ entry-inside m (s .parents) (getD (s .mates) b 0) mate-in)
 
-      pub climb-parent : getD (s .parents) (getD (s .mates) b 0) 0 < length R
-      climb-parent = rw parent-is at (even-inside R s rows state S (state .parent (M b)) (C .at .scanning .search .invariant .parent-even (M b) mate-odd))
+      parent-in : getD (s .parents) (getD (s .mates) b 0) 0 < m
+      parent-in = rw parent-is at (even-inside R s rows state (T .stands) (state .parent (M b)) (I .parent-even (M b) mate-odd))
 
-      next-is : state .base (state .parent (M b)) ≡ getD (s .bases) (getD (s .parents) (getD (s .mates) b 0) 0) 0
-      next-is = S .base-is (state .parent (M b)) ∙ (ap (entry m (s .bases)) parent-is
-          ∙ entry-inside m (s .bases) (getD (s .parents) (getD (s .mates) b 0) 0) climb-parent)
+      next-is : state .base (state .parent (M b)) ≡ baseAbove (s .mates) (s .bases) (s .parents) b
+      next-is = T .stands .base-is (state .parent (M b)) ∙ (ap (entry m (s .bases)) parent-is
+          ∙ entry-inside m (s .bases) (getD (s .parents) (getD (s .mates) b 0) 0) parent-in)
 
-      pub climb-step : Climb R r s rows h x y (getD (s .bases) (getD (s .parents) (getD (s .mates) b 0) 0) 0) (left - 1)
-      climb-step =
-          let I = C .at .scanning .search .invariant in
-          record {
-            at = C .at;
-            even = C .even;
-            neighbour = C .neighbour;
-            walk = rw next-is at (walk-step (adjacent R) symmetric M r state I A x b (C .walk) on-it mate-odd);
-            less =
-                let o : state .order (state .base (state .parent (M b))) < left - 1 = omega (arith, C .less, walk-less (adjacent R) symmetric M r state I b mate-odd) in
-                rw next-is at o;
-          }
+      next : Climbing M state x y (λ t. eqb t (getD (s .mates) b 0) || marked t) (baseAbove (s .mates) (s .bases) (s .parents) b)
+      next = rw (sym next-is, sym mate-is) (climb-next (adjacent R) symmetric M r state I x y ex ey marked b C (cc free) (cc free))
 
-  -- what the functions on the rows of a blossom ask
-  module _ (at : ScanAt R r s rows h x y) (l : y < length R) (e : getD (s .labels) y 0 ≡ 1) where
-    pub readable : Readable (length R) (s .labels) (s .mates) x y
-    unfolding labelOf
-    readable =
-        let state = at .standing .state in let S = at .standing .stands in let I = at .scanning .search .invariant in
-        let inside = mate-inside R r s rows (at .standing) in
-        let number : (z : ℕ) → state .label z ≡ Even → z < m → getD (s .labels) z 0 ≡ 1 = λ z f k.
-        eqb-true (getD (s .labels) z 0) 1 (cc (label-inside R r s rows state S I z k, is-even-number (getD (s .labels) z 0)))
-        in
-        record {
-          few = at .standing .sized .few;
-          inside = inside;
-          mate-even = λ z k o.
-              let f = label-number R s rows state S z 2 k o in
-              let g : state .label (getD (s .mates) z 0) ≡ Even = cc (I .mate-odd z (cc), entry-inside m (s .mates) z k) in
-              number (getD (s .mates) z 0) g (inside z k);
-          x-inside = scan-inside at;
-          y-inside = l;
-          x-even = number x (at .scanning .partly .x-even) (scan-inside at);
-          y-even = e;
-        }
+      next-less : state .order (baseAbove (s .mates) (s .bases) (s .parents) b) < state .order b
+      next-less = rw next-is at (walk-less (adjacent R) symmetric M r state I b mate-odd)
 
-    pub cycle-odd-or-none : (sides : List ℕ) → ((v : ℕ) → v < length R → getD sides v 0 ≡ sideOf rows (s .labels) (s .mates) x y v)
-        → (v : ℕ) → v < length R → (getD sides v 0 ≡ 0) ⊎ (getD (s .labels) v 0 ≡ 2)
-    cycle-odd-or-none sides sided v k =
-        let state = at .standing .state in let S = at .standing .stands in let I = at .scanning .search .invariant in
-        elim (is (odd? (state .label v))) [
-          | yes f ↦ inr (eqb-true (getD (s .labels) v 0) 2 (cc (label-inside R r s rows state S I v k, is-odd-number (getD (s .labels) v 0))))
-          | no f ↦ inl (side-of-other R r s rows state S I x y (at .scanning .partly .x-even) (even-number at l e) sides sided v k f)
-        ]
+  abbrev base : ℕ → ℕ
+  base n = baseAfter (s .mates) (s .bases) (s .parents) x n
+
+  abbrev marks : ℕ → ℕ → Bool
+  marks n v = passed (s .mates) (s .bases) (s .parents) x n v
+
+  abbrev going : ℕ → Bool
+  going n = went rows (s .mates) (s .bases) (s .parents) x y n
+
+  -- after n steps; the order falls
+  record Arrived (n : ℕ) : Type 0 where
+    climbing : Climbing M state x y (λ v. marks n v) (base n)
+    early : state .order (base n) + n < s .clock
+
+  arrived : (n : ℕ) → going n ≡ true → Arrived n
+  arrived zero w =
+      let e : state .base x ≡ getD (s .bases) x 0 = T .stands .base-is x ∙ entry-inside m (s .bases) x (even-inside R s rows state (T .stands) x ex) in
+      let o : state .order (state .base x) + 0 < s .clock = omega (arith, I .order-base x ex, I .order-clock x ex, T .stands .clock-is) in
+      record { climbing = rw e at (climb-begin (adjacent R) symmetric M r state I x y ex ey); early = rw e at o }
+  arrived (suc n) w =
+      let p = both (going n) (goesOn rows (s .mates) y (base n)) w in
+      let A = arrived n (cc p) in
+      record {
+        climbing = next (λ v. marks n v) (base n) (A .climbing) (cc p);
+        early = omega (arith, A .early, next-less (λ v. marks n v) (base n) (A .climbing) (cc p));
+      }
+
+  climbing-at : (n b : ℕ) → b ≡ base n → Arrived n → Climbing M state x y (λ v. marks n v) b
+  climbing-at n b e A = rw e (A .climbing)
+
+  pub climbable : Climbable rows (s .mates) (s .bases) (s .parents) x y
+  climbable = let few = T .sized .few in record {
+    from = omega (arith, even-inside R s rows state (T .stands) x ex);
+    against = omega (arith, T .square .many, even-inside R s rows state (T .stands) y ey);
+    base-inside = λ n w. omega (arith, inside (λ v. marks n v) (base n) (arrived n w .climbing));
+    mate-inside = λ n w. omega (arith, mate-in (λ v. marks n v) (base n) (arrived n w .climbing));
+    parent-inside = λ n w.
+        let p = both (going n) (goesOn rows (s .mates) y (base n)) w in
+        omega (arith, parent-in (λ v. marks n v) (base n) (arrived n (cc p) .climbing) (cc p));
+    short = λ n w. omega (arith, arrived n w .early, clock-most R s rows state (T .stands));
+  }
+
+  -- the bases that the walk visits are the mates of the vertices that it passes
+  visited-is : (n : ℕ) → going n ≡ true → (c : ℕ) → c < m → visited (s .mates) (s .bases) (s .parents) x n c ≡ marks n (getD (s .mates) c 0)
+  visited-is zero w c l = refl
+  visited-is (suc n) w c l =
+      let p = both (going n) (goesOn rows (s .mates) y (base n)) w in
+      let k = mate-is (λ v. marks n v) (base n) (arrived n (cc p) .climbing) in
+      let h = visited-is n (cc p) c l in
+      let e = entry-inside m (s .mates) c l in
+      elim (test c (base n)) [
+        | same f g ↦ cc (eqb-refl (getD (s .mates) c 0))
+        | different d ↦ cc (keep-apart M (λ z. cc (I .mates z)) c (base n) d .left)
+      ]
+
+  -- its end
+  module _ (number b : ℕ) (before after : Marks) (E : Climbed rows (s .mates) (s .bases) (s .parents) x y number b before after) where
+    abbrev n : ℕ
+    n = E .steps
+
+    climbing : Climbing M state x y (λ v. marks n v) b
+    climbing = climbing-at n b (E .marked .reached) (arrived n (E .marked .went-on))
+
+    end : (eqb (M b) b || below M state (M b) y) ≡ true
+    end = either (eqb (M b) b) (below M state (M b) y) (sym (goes-on (λ v. marks n v) b climbing) ∙ E .ended)
+
+    pub walk : Walk M state (cycle M state x y) x b
+    walk = climb-walk (adjacent R) symmetric M r state I x y ex ey (λ v. marks n v) b climbing end
+
+    pub off : cycle M state x y (M b) ≡ false
+    off = climb-ends (adjacent R) symmetric M r state I x y ex ey (λ v. marks n v) b climbing end
+
+    pub b-inside : b < length R
+    b-inside = inside (λ v. marks n v) b climbing
+
+    marks-are : (v : ℕ) → marks n v ≡ sided M state x y v
+    marks-are v = climb-marks (adjacent R) symmetric M r state I x y ex ey (λ w. marks n w) b climbing end v
+
+    pub marked-is : (v : ℕ) → getD (after .sides) v 0 ≡ cond (sided M state x y v) number (getD (before .sides) v 0)
+    marked-is v = cc (E .marked .side-is v, marks-are v)
+
+    pub added-is : (v : ℕ) → has (after .cycle) v ≡ (sided M state x y v || has (before .cycle) v)
+    added-is v = cc (E .marked .member v, marks-are v)
+
+    pub on-is : (c : ℕ) → c < m → getD (after .bases-on) c 0 ≡ cond (sided M state x y (getD (s .mates) c 0)) 1 (getD (before .bases-on) c 0)
+    on-is c l = cc (E .marked .on-is c, visited-is n (E .marked .went-on) c l, marks-are (getD (s .mates) c 0))

@@ -7,6 +7,7 @@ pub mod Arrays
 pub mod Search
 pub mod Labelling
 pub mod Rows
+pub mod Climbs
 pub mod Steps
 pub mod Bases
 pub mod Progress

@@ -1,29 +1,29 @@
 -- What the functions of a search ask and promise.
-use Prim.Native.Nat.{ℕ, _<_, _≤_}
+use Prim.Native.Nat.{ℕ, _+_, _<_, _≤_}
 use mathlib.Core.Path.{_≡_}
 use mathlib.Core.Bool.{Bool, true, false, not, _&&_, _||_}
 use mathlib.Core.List.{List}
 use lib.Dec.{eqb}
 use lib.ListN.{length, getD, set}
 use Rattle.ring.specs.declared.requests.Request.{Request}
-use Rattle.ring.specs.Requests.{ValidRequests}
+use Rattle.ring.specs.Requests.{requestsOf, ValidRequests}
+use Rattle.sets.specs.Sets.{has}
 use Rattle.neighbours.specs.Neighbours.{Prefixes}
 use Rattle.matching.specs.Adjacency.{adjacent}
 use Rattle.matching.specs.Arrays.{Arrays, rest}
-use Rattle.matching.specs.Search.{Settled, ScanAt}
+use Rattle.matching.specs.Search.{Settled, SearchAt, ScanAt, Outcome}
 
--- the edge from x to y is there, and y is free
-unfoldable pub freeIn : List Request → List ℕ → ℕ → ℕ → Bool
-freeIn R labels x y = eqb (getD labels y 0) 0 && adjacent R x y
+-- y is free, and in the set
+unfoldable pub freeIn : List ℕ → List ℕ → ℕ → Bool
+freeIn around labels y = eqb (getD labels y 0) 0 && has around y
 
 -- y is free, or even and of another class than x
 unfoldable pub apartIn : List ℕ → List ℕ → ℕ → ℕ → Bool
 apartIn labels bases x y = eqb (getD labels y 0) 0 || eqb (getD labels y 0) 1 && not (eqb (getD bases x 0) (getD bases y 0))
 
--- the edge from x to y is there, and y is free, or even and of another class
-unfoldable pub relevantIn : List Request → List ℕ → List ℕ → ℕ → ℕ → Bool
-relevantIn R labels bases x y =
-    (eqb (getD labels y 0) 0 || eqb (getD labels y 0) 1 && not (eqb (getD bases x 0) (getD bases y 0))) && adjacent R x y
+-- and in the set
+unfoldable pub relevantIn : List ℕ → List ℕ → List ℕ → ℕ → ℕ → Bool
+relevantIn around labels bases x y = apartIn labels bases x y && has around y
 
 -- n is the first number from `from` on, and below m, that passes the test, or m
 pub record First (test : ℕ → Bool) (from m n : ℕ) : Type 0 where
@@ -44,12 +44,35 @@ pub record Due (R : List Request) (sets : List (List ℕ)) (mates labels bases :
   pub most : first ≤ m
   pub mapped : Mapped R sets
 
+-- the next one from `root`, which is exposed and not frozen, or none if that is m
+pub record Rooted (R : List Request) (sets : List (List ℕ)) (mates labels bases : List ℕ) (root m : ℕ) : Type 0 where
+  pub due : Due R sets mates labels bases root m
+  pub exposed : root < m → getD mates root 0 ≡ root
+  pub free : root < m → getD labels root 0 < 3
+
 -- x is being scanned, and the next vertex y, below m, is its neighbour
 pub record Reached (R : List Request) (r : ℕ) (s : Arrays) (rows : List (List ℕ)) (h x y m : ℕ) : Type 0 where
   pub at : ScanAt R r s rows h x y
   pub number : m ≡ length R
   pub inside : y < m
   pub neighbour : adjacent R x y ≡ true
+
+-- the arrays and the rows stand for a search, from some root, with h vertices of its queue scanned
+abbrev pub InSearch : List Request → Arrays → List (List ℕ) → ℕ → Type 0
+InSearch R s rows h = (r : ℕ) × SearchAt R r s rows h
+
+-- each search that the first ones stood for, with h vertices scanned, has enlarged the matching in the second ones, or goes on with n scanned
+abbrev pub Advanced : List Request → Arrays → List (List ℕ) → ℕ → Arrays → List (List ℕ) → Bool → ℕ → Type 0
+Advanced R s rows h t after done n = (r : ℕ) → SearchAt R r s rows h → Outcome R r t after done (SearchAt R r t after n)
+
+-- they stand for a scan of x, in some search, that has come to its neighbour y
+abbrev pub InScan : Arrays → List (List ℕ) → ℕ → ℕ → ℕ → Type 0
+InScan s rows x y m = (ends : List ℕ) × (r : ℕ) × (h : ℕ) × Reached (requestsOf ends) r s rows h x y m
+
+-- each such scan has taken the edge to y: its search has enlarged the matching, or it goes on behind y
+abbrev pub Stepped : Arrays → List (List ℕ) → ℕ → ℕ → ℕ → Arrays → List (List ℕ) → Bool → Type 0
+Stepped s rows x y m t after done = (ends : List ℕ) (r h : ℕ) → Reached (requestsOf ends) r s rows h x y m
+    → Outcome (requestsOf ends) r t after done (ScanAt (requestsOf ends) r t after h x (y + 1))
 
 -- the arrays when a search from r begins
 abbrev pub begunArrays : Arrays → ℕ → List ℕ → Arrays

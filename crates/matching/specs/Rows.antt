@@ -1,10 +1,10 @@
 -- The rows of a blossom, entry by entry, as the arrays have them. All vertices are below m, the number of requests.
 use Prim.Native.Nat.{ℕ, _<_, _≤_}
 use mathlib.Core.Path.{_≡_}
-use mathlib.Core.Bool.{Bool, true, false, cond}
+use mathlib.Core.Bool.{Bool, false, cond}
 use mathlib.Core.List.{List, []}
 use lib.Dec.{eqb}
-use lib.ListN.{length, getD}
+use lib.ListN.{length, getD, set}
 use Rattle.sets.specs.Sets.{has}
 use Rattle.blossom.proofs.State.{below-test}
 use Rattle.matching.specs.Model.{labelOf}
@@ -22,17 +22,6 @@ belowIn rows labels mates v z =
 unfoldable pub absorbedEntry : List (List ℕ) → List ℕ → List ℕ → ℕ → ℕ → ℕ → ℕ → ℕ
 absorbedEntry rows labels mates p q v z =
     cond (eqb z v) v (cond (eqb z p) q (cond (eqb z q) p (cond (belowIn rows labels mates v z) (cell rows p z) (cell rows q z))))
-
--- on which side of the edge from x to y the cycle has v: 0 on none, 1 above x alone, 2 above y alone; by whether rows x and y agree with the mates at v
-abbrev pub sideBy : Bool → Bool → ℕ
-sideBy true true = 0
-sideBy true false = 2
-sideBy false true = 1
-sideBy false false = 0
-
-unfoldable pub sideOf : List (List ℕ) → List ℕ → List ℕ → ℕ → ℕ → ℕ → ℕ
-sideOf rows labels mates x y v =
-    cond (eqb (getD labels v 0) 2) (sideBy (eqb (cell rows x v) (getD mates v 0)) (eqb (cell rows y v) (getD mates v 0))) 0
 
 -- labels and mates such that an absorbed row reads the rows of even vertices only
 pub record Readable (m : ℕ) (labels mates : List ℕ) (x y : ℕ) : Type 0 where
@@ -74,8 +63,10 @@ pub record Sparse (m : ℕ) (rows : List (List ℕ)) (labels mates sides cycle j
   pub first : (v : ℕ) → v < m → getD sides v 0 ≡ 1 → Unmixed m rows labels mates joined x y v
   pub second : (v : ℕ) → v < m → getD sides v 0 ≡ 2 → Unmixed m rows labels mates joined y x v
 
--- the row that v gets, above p and not above q
-pub record AbsorbedRow (m : ℕ) (rows : List (List ℕ)) (labels mates : List ℕ) (p q v : ℕ) (row : List ℕ) : Type 0 where
+-- the rows after v, above p and not above q, has got its own
+pub record AbsorbedRow (m : ℕ) (rows after : List (List ℕ)) (labels mates : List ℕ) (p q v : ℕ) : Type 0 where
+  pub row : List ℕ
+  pub stored : after ≡ set rows v row
   pub wide : length row ≡ 512
   pub entries : (z : ℕ) → z < m → getD row z 0 ≡ absorbedEntry rows labels mates p q v z
 

@@ -6,6 +6,7 @@ use mathlib.Core.List.{List, []}
 use lib.Dec.{eqb, ltb}
 use lib.ListN.{length, getD, set}
 use Rattle.ring.proofs.Counting.{count}
+use Rattle.sets.specs.Sets.{has}
 use Rattle.matching.specs.Arrays.{Arrays}
 use Rattle.matching.specs.Model.{among}
 
@@ -39,14 +40,17 @@ enlargedArrays s rows x y = record {
 unfoldable pub onCycle : ℕ → List ℕ → ℕ → Bool
 onCycle m sides v = cond (ltb v m) (not (eqb (getD sides v 0) 0)) false
 
--- z comes to the class of the blossom: it is on the cycle, or it is even and its base is the mate of a vertex on the cycle
-unfoldable pub joinsBlossom : List ℕ → List ℕ → List ℕ → List ℕ → ℕ → Bool
-joinsBlossom labels mates bases sides z =
-    not (eqb (getD sides z 0) 0) || eqb (getD labels z 0) 1 && not (eqb (getD sides (getD mates (getD bases z 0) 0) 0) 0)
+-- the base of z is on, that is, the mate of a vertex on the cycle
+abbrev pub baseOn : List ℕ → List ℕ → ℕ → Bool
+baseOn bases on z = not (eqb (getD on (getD bases z 0) 0) 0)
+
+-- z comes to the class of the blossom: it is on the cycle, or it is queued, so even, and its base is on
+unfoldable pub joinsBlossom : List ℕ → List ℕ → ℕ → List ℕ → List ℕ → ℕ → Bool
+joinsBlossom bases queue clock cycle on z = has cycle z || among queue clock z && baseOn bases on z
 
 -- the new base of z, below m
-unfoldable pub newBase : List ℕ → List ℕ → List ℕ → List ℕ → ℕ → ℕ → ℕ
-newBase labels mates bases sides b z = cond (joinsBlossom labels mates bases sides z) b (getD bases z 0)
+unfoldable pub newBase : List ℕ → List ℕ → ℕ → List ℕ → List ℕ → ℕ → ℕ → ℕ
+newBase bases queue clock cycle on b z = cond (joinsBlossom bases queue clock cycle on z) b (getD bases z 0)
 
 -- the vertices of the cycle below n have become even, in their order, and come to the end of the queue
 pub record Promoted (m n : ℕ) (sides labels queue : List ℕ) (clock : ℕ) (labels-after queue-after : List ℕ) (clock-after : ℕ) : Type 0 where

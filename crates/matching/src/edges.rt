@@ -1,23 +1,14 @@
-// The edges from a vertex that have anything to say to a search, from the set of the requests that are compatible with it.
+// The vertices of a set that have anything to say to a search.
 use sets::next;
 ghost use mathlib.Core.Path.{_≡_};
 ghost use Prim.Native.Nat.{_<_, _≤_};
-ghost use lib.ListN.{length, getD};
-ghost use Rattle.ring.specs.Requests.{requestsOf};
-ghost use Rattle.neighbours.specs.Neighbours.{Neighbours};
+ghost use lib.ListN.{length};
 ghost use Rattle.matching.specs.Progress.{freeIn, apartIn, relevantIn, First};
 
-// The first free neighbour of the even x from `from` on, or m.
-pub fn next_free(
-    ends: &[u16],
-    around: &[u64; 8],
-    labels: &[u8; 512],
-    x: usize,
-    from: usize,
-    m: usize,
-) -> usize
-    requires { ⌜ (m ≡ length (requestsOf (now ends))) × (x < m) × (from ≤ m) × (m ≤ 512) × Neighbours (requestsOf (now ends)) x (now around) × (getD (now labels) x 0 ≡ 1) ⌝ }
-    ensures { λ r. ⌜ First (freeIn (requestsOf (now (ends .entry))) (now (labels .entry)) x) from m r ⌝ }
+// The first free vertex of the set from `from` on, or m.
+pub fn next_free(around: &[u64; 8], labels: &[u8; 512], from: usize, m: usize) -> usize
+    requires { ⌜ (from ≤ m) × (m ≤ 512) × (length (now around) ≡ 8) ⌝ }
+    ensures { λ r. ⌜ First (freeIn (now (around .entry)) (now (labels .entry))) from m r ⌝ }
 {
     let mut y = next(around, from, m);
     while y < m {
@@ -44,9 +35,8 @@ fn apart(labels: &[u8; 512], bases: &[u16; 512], x: usize, y: usize) -> bool
     false
 }
 
-// The first neighbour of the even x from `from` on that is free, or even and of another class, or m.
+// The first vertex of the set from `from` on that is free, or even and of another class than x, or m.
 pub fn next_relevant(
-    ends: &[u16],
     around: &[u64; 8],
     labels: &[u8; 512],
     bases: &[u16; 512],
@@ -54,8 +44,8 @@ pub fn next_relevant(
     from: usize,
     m: usize,
 ) -> usize
-    requires { ⌜ (m ≡ length (requestsOf (now ends))) × (x < m) × (from ≤ m) × (m ≤ 512) × Neighbours (requestsOf (now ends)) x (now around) × (getD (now labels) x 0 ≡ 1) ⌝ }
-    ensures { λ r. ⌜ First (relevantIn (requestsOf (now (ends .entry))) (now (labels .entry)) (now (bases .entry)) x) from m r ⌝ }
+    requires { ⌜ (from ≤ m) × (m ≤ 512) × (length (now around) ≡ 8) × (x < 512) ⌝ }
+    ensures { λ r. ⌜ First (relevantIn (now (around .entry)) (now (labels .entry)) (now (bases .entry)) x) from m r ⌝ }
 {
     let mut y = next(around, from, m);
     while y < m {

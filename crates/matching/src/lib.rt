@@ -1,5 +1,6 @@
 // A maximum matching among compatible requests, by a search for blossoms that keeps for each even vertex a whole matching, its row.
 pub mod blossoms;
+pub mod climbs;
 pub mod counts;
 pub mod edges;
 pub mod labels;

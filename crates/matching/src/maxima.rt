@@ -23,7 +23,7 @@ pub fn maximum(ends: &[u16]) -> Matching
     let mut mates = bases;
     greedy(ends, &sets, &mut mates, m);
     let mut labels = [0u8; 512];
-    let first = settle_alone(ends, &sets, &mates, &mut labels, &mut bases, m);
+    let first = settle_alone(ends, &sets, &mates, &mut labels, &mut bases, 0, m);
     search_from(ends, &sets, &mut mates, &mut labels, &mut bases, first, m);
     let size = pair_count(&mates, m);
     Matching {

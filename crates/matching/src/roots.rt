@@ -12,7 +12,7 @@ ghost use Rattle.ring.specs.Requests.{requestsOf};
 ghost use Rattle.matching.specs.Adjacency.{adjacent};
 ghost use Rattle.matching.specs.Arrays.{rest};
 ghost use Rattle.matching.specs.Search.{Square, Settled};
-ghost use Rattle.matching.specs.Progress.{Mapped, Due};
+ghost use Rattle.matching.specs.Progress.{Mapped, Due, Rooted};
 
 // Whether r is exposed and not frozen.
 fn is_open(mates: &[u16; 512], labels: &[u8; 512], r: usize) -> bool
@@ -30,7 +30,8 @@ fn alone(ends: &[u16], sets: &[[u64; 8]], r: usize, m: usize) -> bool
     requires { ⌜ (m ≡ length (requestsOf (now ends))) × (r < m) × Mapped (requestsOf (now ends)) (now sets) ⌝ }
     ensures { λ t. ⌜ (t ≡ true → (z : ℕ) → adjacent (requestsOf (now (ends .entry))) r z ≡ false) ⌝ }
 {
-    let around = neighbours(ends, sets, r);
+    let mut around = [0u64; 8];
+    neighbours(ends, sets, r, &mut around);
     let first = next(&around, 0, m);
     if first != r {
         return false;
@@ -38,21 +39,22 @@ fn alone(ends: &[u16], sets: &[[u64; 8]], r: usize, m: usize) -> bool
     next(&around, r + 1, m) == m
 }
 
-// Freezes the exposed requests to which none is adjacent, up to the first one from which a search is due; gives that one, or m.
+// From `from` on, freezes the open requests to which none is adjacent, up to the first one from which a search is due; gives that one, or m.
 pub fn settle_alone(
     ends: &[u16],
     sets: &[[u64; 8]],
     mates: &[u16; 512],
     labels: &mut [u8; 512],
     bases: &mut [u16; 512],
+    from: usize,
     m: usize,
 ) -> usize
-    requires { ⌜ Due (requestsOf (now ends)) (now sets) (now mates) (now labels) (now bases) 0 m × ((z : ℕ) → getD (now labels) z 0 ≡ 0) ⌝ }
-    ensures { λ r. ⌜ Due (requestsOf (now (ends .entry))) (now (sets .entry)) (now (mates .entry)) (now (labels .exit)) (now (bases .exit)) r m ⌝ }
+    requires { ⌜ Due (requestsOf (now ends)) (now sets) (now mates) (now labels) (now bases) from m ⌝ }
+    ensures { λ r. ⌜ Rooted (requestsOf (now (ends .entry))) (now (sets .entry)) (now (mates .entry)) (now (labels .exit)) (now (bases .exit)) r m × (from ≤ r) ⌝ }
 {
-    let mut r = 0;
+    let mut r = from;
     while r < m {
-        if wide(mates[r]) == r {
+        if is_open(mates, labels, r) {
             if !alone(ends, sets, r, m) {
                 return r;
             }
@@ -64,7 +66,7 @@ pub fn settle_alone(
     m
 }
 
-// Searches from each exposed request from `first` on, with a row for each request.
+// Searches from each open request from `first` on that has a neighbour, with a row for each request.
 fn search_all(
     ends: &[u16],
     sets: &[[u64; 8]],
@@ -75,28 +77,26 @@ fn search_all(
     first: usize,
     m: usize,
 )
-    requires { ⌜ Due (requestsOf (now ends)) (now sets) (now mates) (now labels) (now bases) first m × Square m (now rows) ⌝ }
+    requires { ⌜ Rooted (requestsOf (now ends)) (now sets) (now mates) (now labels) (now bases) first m × Square m (now rows) ⌝ }
     ensures { λ _. ⌜ Settled (requestsOf (now (ends .entry))) (rest (now (mates .exit)) (now (labels .exit)) (now (bases .exit))) m ⌝ }
 {
     let mut parents = [0u16; 512];
     let mut queue = [0u16; 512];
     let mut r = first;
     while r < m {
-        if is_open(mates, labels, r) {
-            search(
-                ends,
-                sets,
-                rows,
-                mates,
-                labels,
-                bases,
-                &mut parents,
-                &mut queue,
-                r,
-                m,
-            );
-        }
-        r += 1;
+        search(
+            ends,
+            sets,
+            rows,
+            mates,
+            labels,
+            bases,
+            &mut parents,
+            &mut queue,
+            r,
+            m,
+        );
+        r = settle_alone(ends, sets, mates, labels, bases, r + 1, m);
     }
 }
 
@@ -109,7 +109,7 @@ fn with_64_rows(
     first: usize,
     m: usize,
 )
-    requires { ⌜ Due (requestsOf (now ends)) (now sets) (now mates) (now labels) (now bases) first m × (m ≤ 64) ⌝ }
+    requires { ⌜ Rooted (requestsOf (now ends)) (now sets) (now mates) (now labels) (now bases) first m × (m ≤ 64) ⌝ }
     ensures { λ _. ⌜ Settled (requestsOf (now (ends .entry))) (rest (now (mates .exit)) (now (labels .exit)) (now (bases .exit))) m ⌝ }
 {
     let zeros = [0u16; 512];
@@ -126,7 +126,7 @@ fn with_128_rows(
     first: usize,
     m: usize,
 )
-    requires { ⌜ Due (requestsOf (now ends)) (now sets) (now mates) (now labels) (now bases) first m × (m ≤ 128) ⌝ }
+    requires { ⌜ Rooted (requestsOf (now ends)) (now sets) (now mates) (now labels) (now bases) first m × (m ≤ 128) ⌝ }
     ensures { λ _. ⌜ Settled (requestsOf (now (ends .entry))) (rest (now (mates .exit)) (now (labels .exit)) (now (bases .exit))) m ⌝ }
 {
     let zeros = [0u16; 512];
@@ -143,7 +143,7 @@ fn with_256_rows(
     first: usize,
     m: usize,
 )
-    requires { ⌜ Due (requestsOf (now ends)) (now sets) (now mates) (now labels) (now bases) first m × (m ≤ 256) ⌝ }
+    requires { ⌜ Rooted (requestsOf (now ends)) (now sets) (now mates) (now labels) (now bases) first m × (m ≤ 256) ⌝ }
     ensures { λ _. ⌜ Settled (requestsOf (now (ends .entry))) (rest (now (mates .exit)) (now (labels .exit)) (now (bases .exit))) m ⌝ }
 {
     let zeros = [0u16; 512];
@@ -160,7 +160,7 @@ fn with_512_rows(
     first: usize,
     m: usize,
 )
-    requires { ⌜ Due (requestsOf (now ends)) (now sets) (now mates) (now labels) (now bases) first m × (m ≤ 512) ⌝ }
+    requires { ⌜ Rooted (requestsOf (now ends)) (now sets) (now mates) (now labels) (now bases) first m × (m ≤ 512) ⌝ }
     ensures { λ _. ⌜ Settled (requestsOf (now (ends .entry))) (rest (now (mates .exit)) (now (labels .exit)) (now (bases .exit))) m ⌝ }
 {
     let zeros = [0u16; 512];
@@ -178,7 +178,7 @@ pub fn search_from(
     first: usize,
     m: usize,
 )
-    requires { ⌜ Due (requestsOf (now ends)) (now sets) (now mates) (now labels) (now bases) first m ⌝ }
+    requires { ⌜ Rooted (requestsOf (now ends)) (now sets) (now mates) (now labels) (now bases) first m ⌝ }
     ensures { λ _. ⌜ Settled (requestsOf (now (ends .entry))) (rest (now (mates .exit)) (now (labels .exit)) (now (bases .exit))) m ⌝ }
 {
     if first == m {

@@ -1,49 +1,28 @@
 // A search from an exposed vertex: it enlarges the matching, or freezes its tree.
 use super::blossoms::promote;
 use super::blossoms::rebase;
+use super::climbs::climb_both;
 use super::edges::next_free;
 use super::edges::next_relevant;
 use super::labels::freeze;
 use super::labels::unlabel;
 use super::rows::absorb;
-use super::rows::sides;
 use super::steps::Progress;
 use super::steps::attach;
 use super::steps::wide;
 use neighbours::neighbours;
 ghost use mathlib.Core.Path.{_≡_};
-ghost use mathlib.Core.Bool.{false, not};
-ghost use Prim.Native.Nat.{_+_, _<_};
-ghost use lib.Dec.{eqb};
+ghost use Prim.Native.Nat.{ℕ, _+_, _<_, _≤_};
+ghost use mathlib.Core.List.{List};
 ghost use lib.ListN.{length, getD, set};
 ghost use Rattle.ring.specs.Requests.{requestsOf};
 ghost use Rattle.matching.specs.Arrays.{arrays};
-ghost use Rattle.matching.specs.Search.{Square, Settled, SearchAt, ScanAt, Outcome};
-ghost use Rattle.matching.specs.Progress.{Reached, Mapped};
+ghost use Rattle.matching.specs.Labelling.{unlabelled, Relabelled};
+ghost use Rattle.matching.specs.Search.{Square, Settled};
+ghost use Rattle.matching.specs.Progress.{Mapped, InSearch, Advanced, InScan, Stepped};
 
-// Whether the mate of b is on the cycle.
-fn mate_on(mates: &[u16; 512], sides: &[u8; 512], b: usize) -> bool
-    requires { ⌜ (b < 512) × (getD (now mates) b 0 < 512) ⌝ }
-    ensures { λ r. ⌜ r ≡ not (eqb (getD (now (sides .entry)) (getD (now (mates .entry)) b 0) 0) 0) ⌝ }
-{
-    let t = wide(mates[b]);
-    sides[t] != 0
-}
-
-// The base above b: that of the parent of its mate.
-fn above(mates: &[u16; 512], parents: &[u16; 512], bases: &[u16; 512], b: usize) -> usize
-    requires { ⌜ (b < 512) × (getD (now mates) b 0 < 512) × (getD (now parents) (getD (now mates) b 0) 0 < 512) ⌝ }
-    ensures { λ r. ⌜ r ≡ getD (now (bases .entry)) (getD (now (parents .entry)) (getD (now (mates .entry)) b 0) 0) 0 ⌝ }
-{
-    let t = wide(mates[b]);
-    let p = wide(parents[t]);
-    wide(bases[p])
-}
-
-// The edge from x, at place h of the queue in the search from r, to the even y closes a blossom. Its base is where the walk up from x leaves the
-// cycle; `left` is above the order of b, which falls.
+// The edge from x, which is being scanned, to the even y closes a blossom. Its base is where the walk up from x ends, and from y as well.
 fn blossom(
-    ends: &[u16],
     rows: &mut [[u16; 512]],
     mates: &[u16; 512],
     labels: &mut [u8; 512],
@@ -51,31 +30,38 @@ fn blossom(
     parents: &[u16; 512],
     queue: &mut [u16; 512],
     clock: usize,
-    r: usize,
-    h: usize,
     x: usize,
     y: usize,
     m: usize,
-) -> usize
-    requires { ⌜ Reached (requestsOf (now ends)) r (arrays (now mates) (now labels) (now bases) (now parents) (now queue) clock) (now rows) h x y m × (getD (now labels) y 0 ≡ 1) ⌝ }
-    ensures { λ k. ⌜ ScanAt (requestsOf (now (ends .entry))) r (arrays (now (mates .entry)) (now (labels .exit)) (now (bases .exit)) (now (parents .entry)) (now (queue .exit)) k) (now (rows .exit)) h x (y + 1) ⌝ }
+) -> Progress
+    requires { ⌜ InScan (arrays (now mates) (now labels) (now bases) (now parents) (now queue) clock) (now rows) x y m × (getD (now labels) y 0 ≡ 1) ⌝ }
+    ensures { λ p. ⌜ Stepped (arrays (now (mates .entry)) (now (labels .entry)) (now (bases .entry)) (now (parents .entry)) (now (queue .entry)) clock) (now (rows .entry)) x y m (arrays (now (mates .entry)) (now (labels .exit)) (now (bases .exit)) (now (parents .entry)) (now (queue .exit)) (p .clock)) (now (rows .exit)) (p .done) ⌝ }
 {
+    let mut sides = [0u8; 512];
     let mut cycle = [0u64; 8];
-    let sides = sides(rows, labels, mates, &mut cycle, x, y, m);
-    let mut b = wide(bases[x]);
-    let mut left = clock;
-    while mate_on(mates, &sides, b) {
-        b = above(mates, parents, bases, b);
-        left -= 1;
-    }
-    let joined = rebase(labels, mates, bases, queue, &sides, &cycle, clock, b, m);
+    let mut on = [0u8; 512];
+    let b = climb_both(
+        rows,
+        mates,
+        bases,
+        parents,
+        &mut sides,
+        &mut cycle,
+        &mut on,
+        x,
+        y,
+    );
+    let joined = rebase(bases, queue, &cycle, &on, clock, b, m);
     absorb(rows, labels, mates, &sides, &cycle, &joined, x, y, m);
-    promote(labels, queue, &sides, &cycle, clock, m)
+    let k = promote(labels, queue, &sides, &cycle, clock, m);
+    Progress {
+        clock: k,
+        done: false,
+    }
 }
 
 // What the edge from x to y does, which is free or even and of another class.
 fn step(
-    ends: &[u16],
     rows: &mut [[u16; 512]],
     mates: &mut [u16; 512],
     labels: &mut [u8; 512],
@@ -83,41 +69,20 @@ fn step(
     parents: &mut [u16; 512],
     queue: &mut [u16; 512],
     clock: usize,
-    r: usize,
-    h: usize,
     x: usize,
     y: usize,
     m: usize,
 ) -> Progress
-    requires { ⌜ Reached (requestsOf (now ends)) r (arrays (now mates) (now labels) (now bases) (now parents) (now queue) clock) (now rows) h x y m × (getD (now labels) y 0 < 2) ⌝ }
-    ensures { λ p. ⌜ Outcome (requestsOf (now (ends .entry))) r (arrays (now (mates .exit)) (now (labels .exit)) (now (bases .exit)) (now (parents .exit)) (now (queue .exit)) (p .clock)) (now (rows .exit)) (p .done) (ScanAt (requestsOf (now (ends .entry))) r (arrays (now (mates .exit)) (now (labels .exit)) (now (bases .exit)) (now (parents .exit)) (now (queue .exit)) (p .clock)) (now (rows .exit)) h x (y + 1)) ⌝ }
+    requires { ⌜ InScan (arrays (now mates) (now labels) (now bases) (now parents) (now queue) clock) (now rows) x y m × (getD (now labels) y 0 < 2) ⌝ }
+    ensures { λ p. ⌜ Stepped (arrays (now (mates .entry)) (now (labels .entry)) (now (bases .entry)) (now (parents .entry)) (now (queue .entry)) clock) (now (rows .entry)) x y m (arrays (now (mates .exit)) (now (labels .exit)) (now (bases .exit)) (now (parents .exit)) (now (queue .exit)) (p .clock)) (now (rows .exit)) (p .done) ⌝ }
 {
     if labels[y] == 1 {
-        let k = blossom(
-            ends,
-            rows,
-            mates,
-            labels,
-            bases,
-            parents,
-            queue,
-            clock,
-            r,
-            h,
-            x,
-            y,
-            m,
-        );
-        return Progress {
-            clock: k,
-            done: false,
-        };
+        return blossom(rows, mates, labels, bases, parents, queue, clock, x, y, m);
     }
     attach(rows, mates, labels, bases, parents, queue, clock, x, y)
 }
 
-// The tree grows from the vertex at place g of the queue by all its free neighbours, unless one of them is exposed; the first h vertices of the queue
-// are scanned.
+// The tree grows from the vertex at place g of the queue by all its free neighbours, unless one of them is exposed.
 fn extend(
     ends: &[u16],
     sets: &[[u64; 8]],
@@ -128,25 +93,24 @@ fn extend(
     parents: &mut [u16; 512],
     queue: &mut [u16; 512],
     clock: usize,
-    r: usize,
-    h: usize,
     g: usize,
-    m: usize,
 ) -> Progress
-    requires { ⌜ SearchAt (requestsOf (now ends)) r (arrays (now mates) (now labels) (now bases) (now parents) (now queue) clock) (now rows) h × (m ≡ length (requestsOf (now ends))) × (g < clock) × Mapped (requestsOf (now ends)) (now sets) ⌝ }
-    ensures { λ p. ⌜ Outcome (requestsOf (now (ends .entry))) r (arrays (now (mates .exit)) (now (labels .exit)) (now (bases .exit)) (now (parents .exit)) (now (queue .exit)) (p .clock)) (now (rows .exit)) (p .done) (SearchAt (requestsOf (now (ends .entry))) r (arrays (now (mates .exit)) (now (labels .exit)) (now (bases .exit)) (now (parents .exit)) (now (queue .exit)) (p .clock)) (now (rows .exit)) h) ⌝ }
+    requires { ⌜ ((h : ℕ) × InSearch (requestsOf (now ends)) (arrays (now mates) (now labels) (now bases) (now parents) (now queue) clock) (now rows) h) × (g < clock) × Mapped (requestsOf (now ends)) (now sets) ⌝ }
+    ensures { λ p. ⌜ ((h : ℕ) → Advanced (requestsOf (now (ends .entry))) (arrays (now (mates .entry)) (now (labels .entry)) (now (bases .entry)) (now (parents .entry)) (now (queue .entry)) clock) (now (rows .entry)) h (arrays (now (mates .exit)) (now (labels .exit)) (now (bases .exit)) (now (parents .exit)) (now (queue .exit)) (p .clock)) (now (rows .exit)) (p .done) h) ⌝ }
 {
+    let m = ends.len() / 2;
     let x = wide(queue[g]);
-    let around = neighbours(ends, sets, x);
+    let mut around = [0u64; 8];
+    neighbours(ends, sets, x, &mut around);
     let mut k = clock;
-    let mut y = next_free(ends, &around, labels, x, 0, m);
+    let mut y = next_free(&around, labels, 0, m);
     while y < m {
         let p = attach(rows, mates, labels, bases, parents, queue, k, x, y);
         if p.done {
             return p;
         }
         k = p.clock;
-        y = next_free(ends, &around, labels, x, y + 1, m);
+        y = next_free(&around, labels, y + 1, m);
     }
     Progress {
         clock: k,
@@ -165,38 +129,24 @@ fn scan(
     parents: &mut [u16; 512],
     queue: &mut [u16; 512],
     clock: usize,
-    r: usize,
     h: usize,
-    m: usize,
 ) -> Progress
-    requires { ⌜ SearchAt (requestsOf (now ends)) r (arrays (now mates) (now labels) (now bases) (now parents) (now queue) clock) (now rows) h × (m ≡ length (requestsOf (now ends))) × (h < clock) × Mapped (requestsOf (now ends)) (now sets) ⌝ }
-    ensures { λ p. ⌜ Outcome (requestsOf (now (ends .entry))) r (arrays (now (mates .exit)) (now (labels .exit)) (now (bases .exit)) (now (parents .exit)) (now (queue .exit)) (p .clock)) (now (rows .exit)) (p .done) (SearchAt (requestsOf (now (ends .entry))) r (arrays (now (mates .exit)) (now (labels .exit)) (now (bases .exit)) (now (parents .exit)) (now (queue .exit)) (p .clock)) (now (rows .exit)) (h + 1)) ⌝ }
+    requires { ⌜ InSearch (requestsOf (now ends)) (arrays (now mates) (now labels) (now bases) (now parents) (now queue) clock) (now rows) h × (h < clock) × Mapped (requestsOf (now ends)) (now sets) ⌝ }
+    ensures { λ p. ⌜ Advanced (requestsOf (now (ends .entry))) (arrays (now (mates .entry)) (now (labels .entry)) (now (bases .entry)) (now (parents .entry)) (now (queue .entry)) clock) (now (rows .entry)) h (arrays (now (mates .exit)) (now (labels .exit)) (now (bases .exit)) (now (parents .exit)) (now (queue .exit)) (p .clock)) (now (rows .exit)) (p .done) (h + 1) ⌝ }
 {
+    let m = ends.len() / 2;
     let x = wide(queue[h]);
-    let around = neighbours(ends, sets, x);
+    let mut around = [0u64; 8];
+    neighbours(ends, sets, x, &mut around);
     let mut k = clock;
-    let mut y = next_relevant(ends, &around, labels, bases, x, 0, m);
+    let mut y = next_relevant(&around, labels, bases, x, 0, m);
     while y < m {
-        let p = step(
-            ends,
-            rows,
-            mates,
-            labels,
-            bases,
-            parents,
-            queue,
-            k,
-            r,
-            h,
-            x,
-            y,
-            m,
-        );
+        let p = step(rows, mates, labels, bases, parents, queue, k, x, y, m);
         if p.done {
             return p;
         }
         k = p.clock;
-        y = next_relevant(ends, &around, labels, bases, x, y + 1, m);
+        y = next_relevant(&around, labels, bases, x, y + 1, m);
     }
     Progress {
         clock: k,
@@ -204,12 +154,24 @@ fn scan(
     }
 }
 
-// The root's row is the matching itself.
-fn root_row(rows: &mut [[u16; 512]], mates: &[u16; 512], r: usize)
-    requires { ⌜ r < length (now rows) ⌝ }
-    ensures { λ _. ⌜ now (rows .exit) ≡ set (now (rows .entry)) r (now (mates .entry)) ⌝ }
+// A search from r begins: r is even and the only one queued, all others that are not frozen are free. The root's row is the matching itself.
+fn begin(
+    rows: &mut [[u16; 512]],
+    mates: &[u16; 512],
+    labels: &mut [u8; 512],
+    bases: &mut [u16; 512],
+    queue: &mut [u16; 512],
+    r: usize,
+    m: usize,
+)
+    requires { ⌜ (r < m) × (m ≤ 512) × (r < length (now rows)) × (length (now labels) ≡ 512) ⌝ }
+    ensures { λ _. ⌜ (now (rows .exit) ≡ set (now (rows .entry)) r (now (mates .entry))) × ((free : List ℕ) × Relabelled m (now (labels .entry)) free unlabelled × (now (labels .exit) ≡ set free r 1)) × (now (bases .exit) ≡ set (now (bases .entry)) r r) × (now (queue .exit) ≡ set (now (queue .entry)) 0 r) ⌝ }
 {
     rows[r] = *mates;
+    unlabel(labels, m);
+    labels[r] = 1;
+    bases[r] = r as u16;
+    queue[0] = r as u16;
 }
 
 // A search from r, which is exposed and not frozen. Every vertex of the queue is extended from before the next one is scanned, so that a blossom is
@@ -229,55 +191,24 @@ pub fn search(
     requires { ⌜ Settled (requestsOf (now ends)) (arrays (now mates) (now labels) (now bases) (now parents) (now queue) 0) r × Square m (now rows) × (m ≡ length (requestsOf (now ends))) × (r < m) × (getD (now mates) r 0 ≡ r) × (getD (now labels) r 0 < 3) × Mapped (requestsOf (now ends)) (now sets) ⌝ }
     ensures { λ _. ⌜ Settled (requestsOf (now (ends .entry))) (arrays (now (mates .exit)) (now (labels .exit)) (now (bases .exit)) (now (parents .exit)) (now (queue .exit)) 0) (r + 1) × Square m (now (rows .exit)) ⌝ }
 {
-    root_row(rows, mates, r);
-    unlabel(labels, m);
-    labels[r] = 1;
-    bases[r] = r as u16;
-    queue[0] = r as u16;
-    let mut clock = 1;
+    begin(rows, mates, labels, bases, queue, r, m);
+    let mut k = 1;
     let mut g = 0;
     let mut h = 0;
-    while h < clock {
-        if g < clock {
-            let p = extend(
-                ends,
-                sets,
-                rows,
-                mates,
-                labels,
-                bases,
-                parents,
-                queue,
-                clock,
-                r,
-                h,
-                g,
-                m,
-            );
+    while h < k {
+        if g < k {
+            let p = extend(ends, sets, rows, mates, labels, bases, parents, queue, k, g);
             if p.done {
                 return;
             }
-            clock = p.clock;
+            k = p.clock;
             g += 1;
         } else {
-            let p = scan(
-                ends,
-                sets,
-                rows,
-                mates,
-                labels,
-                bases,
-                parents,
-                queue,
-                clock,
-                r,
-                h,
-                m,
-            );
+            let p = scan(ends, sets, rows, mates, labels, bases, parents, queue, k, h);
             if p.done {
                 return;
             }
-            clock = p.clock;
+            k = p.clock;
             h += 1;
         }
     }

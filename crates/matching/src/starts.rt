@@ -1,51 +1,169 @@
-// A matching to start from: each exposed request takes the first exposed one that it is compatible with.
+// A matching to start from: requests with few compatible ones are matched first, and to one that has few.
 use super::steps::wide;
 use neighbours::neighbours;
+use ring::ways::larger;
 use sets::next;
 ghost use mathlib.Core.Path.{_≡_};
+ghost use mathlib.Core.Logic.{_⊎_};
 ghost use Prim.Native.Nat.{_<_, _≤_};
 ghost use lib.ListN.{length, getD};
 ghost use Rattle.ring.specs.Requests.{requestsOf};
 ghost use Rattle.matching.specs.Progress.{Mapped};
 ghost use Rattle.matching.specs.Start.{Identity, Matched, Partner};
 
-// The first exposed request behind i that is adjacent to i, or i itself.
-fn partner(ends: &[u16], sets: &[[u64; 8]], mates: &[u16; 512], i: usize, m: usize) -> usize
+// How many bits of a word are set.
+fn ones(word: u64) -> u16
+    ensures { λ r. ⌜ r ≤ 64 ⌝ }
+{
+    u64::count_ones(word) as u16
+}
+
+// How many numbers the first words of a set hold. Only the order of the start goes by it, so nothing but a bound is promised.
+fn size(set: &[u64; 8], words: usize) -> u16
+    requires { ⌜ words ≤ 8 ⌝ }
+    ensures { λ r. ⌜ r ≤ 512 ⌝ }
+{
+    let mut count: u16 = 0;
+    let mut k: usize = 0;
+    while k < words {
+        count += ones(set[k]);
+        k += 1;
+    }
+    count
+}
+
+// The sizes of the sets of all requests, and the largest one.
+fn measure(ends: &[u16], sets: &[[u64; 8]], sizes: &mut [u16; 512], m: usize) -> u16
+    requires { ⌜ (m ≡ length (requestsOf (now ends))) × (m ≤ 512) × Mapped (requestsOf (now ends)) (now sets) ⌝ }
+    ensures { λ r. ⌜ r ≤ 512 ⌝ }
+{
+    let words = (m + 63) / 64;
+    let mut around = [0u64; 8];
+    let mut largest: u16 = 0;
+    let mut i: usize = 0;
+    while i < m {
+        neighbours(ends, sets, i, &mut around);
+        let size = size(&around, words);
+        sizes[i] = size;
+        largest = larger(largest, size);
+        i += 1;
+    }
+    largest
+}
+
+// The better partner for i: the other request j, if it is exposed and has a smaller set than the best so far. None so far is i itself.
+fn better(mates: &[u16; 512], sizes: &[u16; 512], i: usize, best: usize, j: usize) -> usize
+    requires { ⌜ (best < 512) × (j < 512) ⌝ }
+    ensures { λ r. ⌜ (r < 512) × ((r ≡ best) ⊎ ((r ≡ j) × (i ≡ j → ⊥) × (getD (now (mates .entry)) j 0 ≡ j))) ⌝ }
+{
+    if i == j {
+        return best;
+    }
+    if wide(mates[j]) != j {
+        return best;
+    }
+    if best == i {
+        return j;
+    }
+    if sizes[j] < sizes[best] {
+        return j;
+    }
+    best
+}
+
+// Whether a partner for i is found whose set is not above `high`.
+fn is_small(sizes: &[u16; 512], i: usize, best: usize, high: u16) -> bool
+    requires { ⌜ best < 512 ⌝ }
+{
+    best != i && sizes[best] <= high
+}
+
+// The exposed request with the smallest set among those adjacent to i, or i itself; the first whose set is not above `high` will do.
+fn partner(
+    ends: &[u16],
+    sets: &[[u64; 8]],
+    sizes: &[u16; 512],
+    mates: &[u16; 512],
+    i: usize,
+    high: u16,
+    m: usize,
+) -> usize
     requires { ⌜ (m ≡ length (requestsOf (now ends))) × (m ≤ 512) × (i < m) × (getD (now mates) i 0 ≡ i) × Mapped (requestsOf (now ends)) (now sets) ⌝ }
     ensures { λ r. ⌜ Partner (requestsOf (now (ends .entry))) (now (mates .entry)) i r ⌝ }
 {
-    let around = neighbours(ends, sets, i);
-    let mut j = next(&around, i + 1, m);
+    let mut around = [0u64; 8];
+    neighbours(ends, sets, i, &mut around);
+    let mut best = i;
+    let mut j = next(&around, 0, m);
     while j < m {
-        if wide(mates[j]) == j {
-            return j;
+        best = better(mates, sizes, i, best, j);
+        if is_small(sizes, i, best, high) {
+            return best;
         }
         j = next(&around, j + 1, m);
     }
-    i
+    best
 }
 
-// If i is exposed, it is matched to the first exposed request behind it that it is adjacent to.
-fn pair_up(ends: &[u16], sets: &[[u64; 8]], mates: &mut [u16; 512], i: usize, m: usize)
+// If i is exposed, it is matched to its partner.
+fn pair_up(
+    ends: &[u16],
+    sets: &[[u64; 8]],
+    sizes: &[u16; 512],
+    mates: &mut [u16; 512],
+    i: usize,
+    high: u16,
+    m: usize,
+)
     requires { ⌜ (m ≡ length (requestsOf (now ends))) × (i < m) × Matched (requestsOf (now ends)) (now mates) × Mapped (requestsOf (now ends)) (now sets) ⌝ }
     ensures { λ _. ⌜ Matched (requestsOf (now (ends .entry))) (now (mates .exit)) ⌝ }
 {
     if wide(mates[i]) == i {
-        let j = partner(ends, sets, mates, i, m);
+        let j = partner(ends, sets, sizes, mates, i, high, m);
         mates[i] = j as u16;
         mates[j] = i as u16;
     }
 }
 
-// All exposed requests, in the order of their numbers.
-pub fn greedy(ends: &[u16], sets: &[[u64; 8]], mates: &mut [u16; 512], m: usize)
+// Whether a size belongs to a class.
+fn within(size: u16, low: u16, high: u16) -> bool {
+    low < size && size <= high
+}
+
+// Those requests whose sets are above `low` and not above `high`, in the order of their numbers.
+fn pair_class(
+    ends: &[u16],
+    sets: &[[u64; 8]],
+    sizes: &[u16; 512],
+    mates: &mut [u16; 512],
+    low: u16,
+    high: u16,
+    m: usize,
+)
     requires { ⌜ (m ≡ length (requestsOf (now ends))) × Matched (requestsOf (now ends)) (now mates) × Mapped (requestsOf (now ends)) (now sets) ⌝ }
     ensures { λ _. ⌜ Matched (requestsOf (now (ends .entry))) (now (mates .exit)) ⌝ }
 {
     let mut i: usize = 0;
     while i < m {
-        pair_up(ends, sets, mates, i, m);
+        if within(sizes[i], low, high) {
+            pair_up(ends, sets, sizes, mates, i, high, m);
+        }
         i += 1;
+    }
+}
+
+// All requests that have another one in their sets, by classes of rising size. The last word of a set also has the numbers from m on.
+pub fn greedy(ends: &[u16], sets: &[[u64; 8]], mates: &mut [u16; 512], m: usize)
+    requires { ⌜ (m ≡ length (requestsOf (now ends))) × Matched (requestsOf (now ends)) (now mates) × Mapped (requestsOf (now ends)) (now sets) ⌝ }
+    ensures { λ _. ⌜ Matched (requestsOf (now (ends .entry))) (now (mates .exit)) ⌝ }
+{
+    let mut sizes = [0u16; 512];
+    let largest = measure(ends, sets, &mut sizes, m);
+    let spare = ((512 - m) % 64) as u16;
+    let mut low: u16 = 1;
+    while spare + low < largest {
+        pair_class(ends, sets, &sizes, mates, spare + low, spare + 2 * low, m);
+        low *= 2;
     }
 }
 

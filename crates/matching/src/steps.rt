@@ -18,16 +18,31 @@ pub fn wide(x: u16) -> usize
     x as usize
 }
 
+// Row c becomes a copy of row x.
+pub fn copy_row(rows: &mut [[u16; 512]], x: usize, c: usize)
+    requires { ⌜ (x < length (now rows)) × (c < length (now rows)) ⌝ }
+    ensures { λ _. ⌜ now (rows .exit) ≡ set (now (rows .entry)) c (getD (now (rows .entry)) x []) ⌝ }
+{
+    rows[c] = rows[x];
+}
+
+// A row gets x and y paired and c exposed.
+pub fn pair_in_row(row: &mut [u16; 512], x: usize, y: usize, c: usize)
+    requires { ⌜ (x < 512) × (y < 512) × (c < 512) ⌝ }
+    ensures { λ _. ⌜ now (row .exit) ≡ set (set (set (now (row .entry)) x y) y x) c c ⌝ }
+{
+    row[x] = y as u16;
+    row[y] = x as u16;
+    row[c] = c as u16;
+}
+
 // Row c becomes row x with x and y paired and c exposed.
 fn grow_row(rows: &mut [[u16; 512]], x: usize, y: usize, c: usize)
     requires { ⌜ (x < 512) × (y < 512) × (c < 512) × (x < length (now rows)) × (c < length (now rows)) ⌝ }
     ensures { λ _. ⌜ now (rows .exit) ≡ set (now (rows .entry)) c (grownRow (now (rows .entry)) x y c) ⌝ }
 {
-    let mut r = rows[x];
-    r[x] = y as u16;
-    r[y] = x as u16;
-    r[c] = c as u16;
-    rows[c] = r;
+    copy_row(rows, x, c);
+    pair_in_row(&mut rows[c], x, y, c);
 }
 
 // The tree grows by y, below x, and its mate c.
@@ -56,10 +71,9 @@ fn enlarge(rows: &[[u16; 512]], mates: &mut [u16; 512], x: usize, y: usize)
     requires { ⌜ (x < 512) × (y < 512) × (x < length (now rows)) ⌝ }
     ensures { λ _. ⌜ now (mates .exit) ≡ set (set (getD (now (rows .entry)) x []) x y) y x ⌝ }
 {
-    let mut r = rows[x];
-    r[x] = y as u16;
-    r[y] = x as u16;
-    *mates = r;
+    *mates = rows[x];
+    mates[x] = y as u16;
+    mates[y] = x as u16;
 }
 
 // The edge from the even x to the free y enlarges the matching, or the tree grows by y and its mate.

@@ -1,19 +1,18 @@
 -- One set among the rows is changed, as a whole or in one word.
 use Prim.Native.Nat.{ℕ, _+_, _*_, _/_, _%_, _<_}
-use mathlib.Core.Path.{_≡_, refl, ap, _∙_}
+use mathlib.Core.Path.{_≡_, refl, _∙_}
 use mathlib.Core.Bool.{not, cond, _||_}
 use mathlib.Core.List.{List, []}
 use native.Mathlib.Omega.{arith}
 use lib.Bits.{bitXor}
 use lib.Dec.{eqb, ltb}
-use lib.ListN.{length, getD, set, replicate, length-set}
-use lib.Seq.{getD-set-same, getD-set-other}
+use lib.ListN.{length, getD, set, length-set}
 use borrow.Author.Tests.{eqb-false, lt-ltb, le-ltb, ne-eqb, eq-eqb}
 use Rattle.ring.specs.Chords.{differ}
 use Rattle.ring.proofs.Cases.{yes, no, is, same, different, test, less, not-less, compare}
 use Rattle.sets.specs.Sets.{has}
 use Rattle.sets.proofs.BitLaws.{on}
-use Rattle.sets.proofs.SetLaws.{has-set, has-word}
+use Rattle.sets.proofs.SetLaws.{has-set, has-word, has-row, row-length}
 use Rattle.neighbours.specs.Rows.{member, Rows, Put, Joined, crossed, Uncrossed}
 use Rattle.neighbours.proofs.WordLaws.{on-differ}
 
@@ -22,18 +21,12 @@ module _ (sets : List (List ℕ)) (x : ℕ) (row : List ℕ) (rows : Rows sets) 
   inside = omega (arith, rows .many)
 
   member-set : (y j : ℕ) → member (set sets x row) y j ≡ cond (eqb y x) (has row j) (member sets y j)
-  member-set y j = elim (test y x) [
-    | same e f ↦ ap (λ (i : ℕ). member (set sets x row) i j) e ∙ ap (λ (l : List ℕ). has l j) (getD-set-same sets x row [] inside) ∙ cc f
-    | different d ↦ ap (λ (l : List ℕ). has l j) (getD-set-other sets x y row [] (eqb-false y x (d .left))) ∙ cc (d .left)
-  ]
+  member-set y j = has-row sets x row inside y j
 
   rows-set : length row ≡ 8 → Rows (set sets x row)
   rows-set w = record {
     many = length-set sets x row ∙ rows .many;
-    wide = λ y l. elim (test y x) [
-      | same e f ↦ rw e (ap length (getD-set-same sets x row [] inside) ∙ w)
-      | different d ↦ ap length (getD-set-other sets x y row [] (eqb-false y x (d .left))) ∙ rows .wide y l
-    ];
+    wide = λ y l. row-length sets x row inside y 8 w (rows .wide y l);
   }
 
   -- a number is put into the set
@@ -105,8 +98,8 @@ module _ (sets now : List (List ℕ)) (x k : ℕ) (h : x < 256) (l : k < 8) (s :
 
 -- ---- the numbers that do not cross, word by word
 
-pub uncrossed-start : (sets : List (List ℕ)) (a b : ℕ) → Uncrossed sets a b 0 (replicate 8 0)
-uncrossed-start sets a b = record { wide = refl; members = λ j h. absurd (omega arith) }
+pub uncrossed-start : (sets : List (List ℕ)) (a b : ℕ) (set : List ℕ) → length set ≡ 8 → Uncrossed sets a b 0 set
+uncrossed-start sets a b set e = record { wide = e; members = λ j h. absurd (omega arith) }
 
 pub uncrossed-turn : (sets : List (List ℕ)) (a b k word : ℕ) (now : List ℕ) → k < 8 → Uncrossed sets a b k now
     → ((i : ℕ) → i < 64 → on word i ≡ not (crossed (on (getD (getD sets a []) k 0) i) (on (getD (getD sets (a + 1) []) k 0) i) (on (getD (getD sets b []) k 0) i) (on (getD (getD sets (b + 1) []) k 0) i)))

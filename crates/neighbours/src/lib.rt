@@ -57,26 +57,24 @@ fn uncrossed_word(a: u64, behind_a: u64, b: u64, behind_b: u64) -> u64
     !((b ^ behind_a) & !((behind_a ^ a) | (behind_b ^ b)))
 }
 
-// The requests that do not cross {a, b}, word by word.
-fn uncrossed(sets: &[[u64; 8]], a: usize, b: usize, words: usize) -> [u64; 8]
-    requires { ⌜ Rows (now sets) × (a < 256) × (b < 256) × (words ≤ 8) ⌝ }
-    ensures { λ r. ⌜ Uncrossed (now (sets .entry)) a b words r ⌝ }
+// Writes the requests that do not cross {a, b}, word by word.
+fn uncrossed(sets: &[[u64; 8]], a: usize, b: usize, words: usize, around: &mut [u64; 8])
+    requires { ⌜ Rows (now sets) × (a < 256) × (b < 256) × (words ≤ 8) × (length (now around) ≡ 8) ⌝ }
+    ensures { λ _. ⌜ Uncrossed (now (sets .entry)) a b words (now (around .exit)) ⌝ }
 {
-    let mut set = [0u64; 8];
     let mut k = 0;
     while k < words {
-        set[k] = uncrossed_word(sets[a][k], sets[a + 1][k], sets[b][k], sets[b + 1][k]);
+        around[k] = uncrossed_word(sets[a][k], sets[a + 1][k], sets[b][k], sets[b + 1][k]);
         k += 1;
     }
-    set
 }
 
-// The requests that are compatible with request x.
-pub fn neighbours(ends: &[u16], sets: &[[u64; 8]], x: usize) -> [u64; 8]
-    requires { ⌜ (x < length (requestsOf (now ends))) × (length (requestsOf (now ends)) ≤ 512) × ValidRequests 256 (requestsOf (now ends)) × Prefixes (requestsOf (now ends)) (now sets) ⌝ }
-    ensures { λ r. ⌜ Neighbours (requestsOf (now (ends .entry))) x r ⌝ }
+// Writes the requests that are compatible with request x.
+pub fn neighbours(ends: &[u16], sets: &[[u64; 8]], x: usize, around: &mut [u64; 8])
+    requires { ⌜ (x < length (requestsOf (now ends))) × (length (requestsOf (now ends)) ≤ 512) × ValidRequests 256 (requestsOf (now ends)) × Prefixes (requestsOf (now ends)) (now sets) × (length (now around) ≡ 8) ⌝ }
+    ensures { λ _. ⌜ Neighbours (requestsOf (now (ends .entry))) x (now (around .exit)) ⌝ }
 {
     let request = ring::requests::request_at(ends, x);
     let words = (ends.len() / 2 + 63) / 64;
-    uncrossed(sets, request.a as usize, request.b as usize, words)
+    uncrossed(sets, request.a as usize, request.b as usize, words, around);
 }

@@ -20,16 +20,16 @@ cast-uncrossed-2 c = search needs
 
 uncrossed-requires : tie.Need-uncrossed-requires
 uncrossed-requires c κs =
-    let start = c .before .before .before .before in
+    let start = c .before .before .before .before .before in
     let few = requests-length (start .args .ends .now) in
-    let ends = ends-below _ _ _ (start .pre .2) (start .pre .0) (c .before .before .request-at .ensures) in
-    (prefixes-rows _ _ (start .pre .3), ends .0, ends .1, omega (arith, start .pre .1))
+    let ends = ends-below _ _ _ (start .pre .2) (start .pre .0) (c .before .before .before .request-at .ensures) in
+    (prefixes-rows _ _ (start .pre .3), ends .0, ends .1, omega (arith, start .pre .1), start .pre .4)
 
 returns : tie.Need-returns
 returns c =
-    let start = c .before .before .before .before .before in
+    let start = c .before .before .before .before .before .before in
     let few = requests-length (start .args .ends .now) in
-    uncrossed-end _ _ _ _ _ _ (c .before .before .before .request-at .ensures) (start .pre .2) (start .pre .3) (start .pre .0) (omega arith) (c .uncrossed .ensures)
+    uncrossed-end _ _ _ _ _ _ (c .before .before .before .before .request-at .ensures) (start .pre .2) (start .pre .3) (start .pre .0) (omega arith) (c .uncrossed .ensures)
 
 pub neighbours-spec : {M : Type 1} → statement M
 neighbours-spec =

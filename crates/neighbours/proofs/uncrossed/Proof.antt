@@ -9,13 +9,13 @@ use Rattle.neighbours.proofs.uncrossed.Statement.{statement}
 use Rattle.neighbours.proofs.uncrossed.Tie as tie
 
 abbrev Inv-loop : tie.InvT-loop
-Inv-loop sets a b words set₀ k₀ set k = (k ≤ words) × Uncrossed sets a b k set
+Inv-loop sets a b words around₀ k₀ around k = (k ≤ words) × Uncrossed sets a b k around
 
 abbrev μ-loop : tie.MeasureT-loop
-μ-loop sets a b words set₀ k₀ set k = words - k
+μ-loop sets a b words around₀ k₀ around k = words - k
 
 loop-holds : tie.Need-loop-holds Inv-loop μ-loop
-loop-holds c = (omega arith, uncrossed-start _ _ _)
+loop-holds c = (omega arith, uncrossed-start _ _ _ _ (c .pre .4))
 
 mul-uncrossed-word : tie.Need-mul-uncrossed-word Inv-loop μ-loop
 mul-uncrossed-word c = search needs
@@ -74,11 +74,11 @@ index-2-uncrossed-word-4 c = search needs
 uncrossed-word-requires : tie.Need-uncrossed-word-requires Inv-loop μ-loop
 uncrossed-word-requires c κs = search needs
 
-mul-set : tie.Need-mul-set Inv-loop μ-loop
-mul-set c = search needs
+mul-around : tie.Need-mul-around Inv-loop μ-loop
+mul-around c = search needs
 
-array-write-set : tie.Need-array-write-set Inv-loop μ-loop
-array-write-set c = search needs
+element-write-around : tie.Need-element-write-around Inv-loop μ-loop
+element-write-around c = search needs
 
 add-k : tie.Need-add-k Inv-loop μ-loop
 add-k c = search needs
@@ -120,8 +120,8 @@ uncrossed-spec =
     index-1-uncrossed-word-4
     index-2-uncrossed-word-4
     uncrossed-word-requires
-    mul-set
-    array-write-set
+    mul-around
+    element-write-around
     add-k
     loop-less
     loop-again

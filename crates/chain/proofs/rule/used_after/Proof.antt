@@ -1,6 +1,5 @@
 -- The colour that the pattern binds is the pick's. Assumes nothing.
-use Prim.Native.Nat.{_<_}
-use mathlib.Core.Path.{_≡_, ap, subst}
+use mathlib.Core.Path.{ap, subst}
 use native.Mathlib.Omega.{arith}
 use borrow.Author.Needs.{needs}
 use Rattle.chain.specs.declared.rule.Pick.{Pick}

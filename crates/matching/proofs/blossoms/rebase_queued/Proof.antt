@@ -1,24 +1,25 @@
--- The loop's invariant: of the first i queued vertices, those that come to the class of the blossom are in the set.
+-- The loop's invariant: of the first i queued vertices, those whose base was on have got the base b.
 use Prim.Native.Nat.{_-_, _≤_}
 use mathlib.Core.Path.{_≡_, refl}
+use mathlib.Core.Bool.{_&&_}
 use native.Mathlib.Omega.{arith}
 use borrow.Author.Needs.{needs}
 use lib.ListN.{getD}
 use Rattle.matching.specs.Model.{among}
-use Rattle.matching.specs.Bases.{Based, RebasedOver}
-use Rattle.matching.proofs.BaseLaws.{collect-none, collect-turn, based-turn, among-more}
+use Rattle.matching.specs.Steps.{baseOn}
+use Rattle.matching.specs.Bases.{Rebased}
+use Rattle.matching.proofs.BaseLaws.{rebased-none, rebased-more, rebased-inside, queued-turn}
 use Rattle.matching.proofs.blossoms.rebase_queued.Statement.{statement}
 use Rattle.matching.proofs.blossoms.rebase_queued.Tie as tie
 
 abbrev Inv-loop : tie.InvT-loop
-Inv-loop labels mates bases₀ queue sides joined₀ clock b m i₀ bases joined i =
-    (i ≤ clock) × Based m b mates bases joined × RebasedOver labels mates sides b (among queue i) bases₀ joined₀ bases joined
+Inv-loop bases₀ queue on joined₀ clock b m i₀ bases joined i = (i ≤ clock) × Rebased b (λ z. among queue i z && baseOn bases₀ on z) bases₀ joined₀ bases joined
 
 abbrev μ-loop : tie.MeasureT-loop
-μ-loop labels mates bases₀ queue sides joined₀ clock b m i₀ bases joined i = clock - i
+μ-loop bases₀ queue on joined₀ clock b m i₀ bases joined i = clock - i
 
 loop-holds : tie.Need-loop-holds Inv-loop μ-loop
-loop-holds c = (omega arith, c .pre .0, collect-none _ _ _ _ _ _ _ (λ z. refl))
+loop-holds c = (omega arith, rebased-none _ _ _ _ (c .pre .3) (c .pre .4) (λ z. refl))
 
 mul-wide : tie.Need-mul-wide Inv-loop μ-loop
 mul-wide c = omega arith
@@ -33,17 +34,10 @@ rebase-vertex-requires : tie.Need-rebase-vertex-requires Inv-loop μ-loop
 rebase-vertex-requires c κs =
     let head = c .before .before .before .before .before in
     let start = head .before in
-    let B = head .loop .inv .1 in
-    let queued = start .pre .2 (head .loop .i) (omega arith) in
-    let base = B .bases-inside (getD (start .args .queue .now) (head .loop .i) 0) queued in
-    rw (c .before .before .wide .ensures) (
-      omega (arith, B .few),
-      omega (arith, B .few, B .base-inside),
-      B .bases-length,
-      B .joined-length,
-      omega (arith, B .few),
-      omega (arith, B .few, B .mates-inside _ base),
-    )
+    let H = head .loop .inv .1 in
+    let queued = start .pre .6 (head .loop .i) (omega arith) in
+    let base = rebased-inside (start .args .m) H (start .pre .1) (getD (start .args .queue .now) (head .loop .i) 0) (start .pre .5 _ queued) in
+    rw (c .before .before .wide .ensures) (omega arith, omega arith, H .bases-length, H .joined-length, omega arith)
 
 add-i : tie.Need-add-i Inv-loop μ-loop
 add-i c = omega arith
@@ -54,16 +48,13 @@ loop-less c = omega arith
 loop-again : tie.Need-loop-again Inv-loop μ-loop
 loop-again c =
     let head = c .before .before .before .before .before .before in
-    let turned = c .rebase-vertex .ensures in (
-      omega arith,
-      based-turn _ _ _ _ _ _ _ _ _ turned _ (head .loop .inv .1),
-      collect-turn _ _ _ _ _ _ _ _ _ turned _ _ _ _ (among-more (head .before .args .queue .now) (head .loop .i) _ (c .before .before .before .wide .ensures)) (head .loop .inv .2),
-    )
+    let H = head .loop .inv .1 in
+    (omega arith, rebased-more _ H (c .rebase-vertex .ensures) (queued-turn (head .before .args .queue .now) (head .before .args .on .now) (head .loop .i) _ (c .before .before .before .wide .ensures) H))
 
 returns : tie.Need-returns Inv-loop μ-loop
 returns c =
     let e : c .before .loop .i ≡ c .before .before .args .clock = omega arith in
-    (c .before .loop .inv .1, rw e at (c .before .loop .inv .2))
+    rw e at (c .before .loop .inv .1)
 
 pub rebase-queued-spec : {M : Type 1} → statement M
 rebase-queued-spec =

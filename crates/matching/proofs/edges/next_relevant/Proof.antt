@@ -2,51 +2,51 @@ use Prim.Native.Nat.{_-_, _<_, _≤_}
 use mathlib.Core.Path.{_≡_, sym, _∙_}
 use mathlib.Core.Bool.{true}
 use native.Mathlib.Omega.{arith}
-use Rattle.ring.specs.Requests.{requestsOf}
 use Rattle.sets.specs.Sets.{has}
 use Rattle.matching.specs.Progress.{relevantIn}
 use Rattle.matching.proofs.FirstLaws.{Passed, passed-none, passed-next, passed-over, passed-found, passed-all}
-use Rattle.matching.proofs.AroundLaws.{around-none-relevant, around-relevant, apart-not}
+use Rattle.matching.proofs.AroundLaws.{relevant-out, relevant-not, relevant-found}
 use Rattle.matching.proofs.edges.next_relevant.Statement.{statement}
 use Rattle.matching.proofs.edges.next_relevant.Tie as tie
 
 abbrev Inv-loop : tie.InvT-loop
-Inv-loop ends around labels bases x from m y₀ y = Passed (relevantIn (requestsOf ends) labels bases x) from y × (y < m → has around y ≡ true) × (y ≤ m)
+Inv-loop around labels bases x from m y₀ y = Passed (relevantIn around labels bases x) from y × (y < m → has around y ≡ true) × (y ≤ m)
 
 abbrev μ-loop : tie.MeasureT-loop
-μ-loop ends around labels bases x from m y₀ y = m - y
+μ-loop around labels bases x from m y₀ y = m - y
 
 next-requires : tie.Need-next-requires Inv-loop μ-loop
-next-requires c κs = let p = c .before .pre in (p .3, p .2, p .4 .wide)
+next-requires c κs = let p = c .pre in (p .1, p .0, p .2)
 
 loop-holds : tie.Need-loop-holds Inv-loop μ-loop
 loop-holds c =
-    let p = c .before .before .pre in let n = c .next .ensures in
-    (passed-over _ _ _ _ (passed-none _ _) (n .0) (λ z a b. around-none-relevant _ _ _ _ _ _ (p .4) (omega (arith, p .0, n .1, b)) (n .2 z a b)), n .3, n .1)
+    let n = c .next .ensures in (passed-over _ _ _ _ (passed-none _ _) (n .0) (λ z a b. relevant-out _ _ _ _ _ (n .2 z a b)), n .3, n .1)
 
 apart-requires : tie.Need-apart-requires Inv-loop μ-loop
-apart-requires c κs = let p = c .before .before .before .before .pre in (omega (arith, p .1, p .3), omega (arith, p .3, c .loop-test .taken))
+apart-requires c κs = let p = c .before .before .before .pre in (p .3, omega (arith, p .1, c .loop-test .taken))
 
 returns : tie.Need-returns Inv-loop μ-loop
-returns c = passed-found _ _ _ _ (c .before .before .before .loop .inv .0) (c .before .before .loop-test .taken) (around-relevant _ _ _ _ _ _ (c .before .before .before .before .before .before .pre .4) (c .before .before .before .before .before .before .pre .5) (rw (c .before .before .before .before .before .before .pre .0) at (c .before .before .before .before .before .before .pre .1)) (rw (c .before .before .before .before .before .before .pre .0) at (c .before .before .loop-test .taken)) (c .before .before .before .loop .inv .1 (c .before .before .loop-test .taken)) (sym (c .before .apart .ensures) ∙ c .if1 .taken))
+returns c =
+    let inv = c .before .before .before .loop .inv in let inside = c .before .before .loop-test .taken in
+    passed-found _ _ _ _ (inv .0) inside (relevant-found _ _ _ _ _ (inv .1 inside) (sym (c .before .apart .ensures) ∙ c .if1 .taken))
 
 add-next : tie.Need-add-next Inv-loop μ-loop
-add-next c = omega (arith, c .before .before .before .before .before .before .pre .3, c .before .before .loop-test .taken)
+add-next c = omega (arith, c .before .before .before .before .before .pre .1, c .before .before .loop-test .taken)
 
 next-requires-2 : tie.Need-next-requires-2 Inv-loop μ-loop
-next-requires-2 c κs = let p = c .before .before .before .before .before .before .pre in (p .3, omega (arith, c .before .before .loop-test .taken), p .4 .wide)
+next-requires-2 c κs = let p = c .before .before .before .before .before .pre in (p .1, omega (arith, c .before .before .loop-test .taken), p .2)
 
 loop-less : tie.Need-loop-less Inv-loop μ-loop
 loop-less c = omega (arith, c .next2 .ensures .0, c .before .before .before .loop-test .taken)
 
 loop-again : tie.Need-loop-again Inv-loop μ-loop
 loop-again c =
-    let p = c .before .before .before .before .before .before .before .pre in let n = c .next2 .ensures in
-    (passed-over _ _ _ _ (passed-next _ _ _ (c .before .before .before .before .loop .inv .0) (apart-not _ _ _ _ _ (sym (c .before .before .apart .ensures) ∙ c .before .if1 .left))) (n .0) (λ z a b. around-none-relevant _ _ _ _ _ _ (p .4) (omega (arith, p .0, n .1, b)) (n .2 z a b)), n .3, n .1)
+    let n = c .next2 .ensures in
+    (passed-over _ _ _ _ (passed-next _ _ _ (c .before .before .before .before .loop .inv .0) (relevant-not _ _ _ _ _ (sym (c .before .before .apart .ensures) ∙ c .before .if1 .left))) (n .0) (λ z a b. relevant-out _ _ _ _ _ (n .2 z a b)), n .3, n .1)
 
 returns-2 : tie.Need-returns-2 Inv-loop μ-loop
 returns-2 c =
-    let e : c .before .loop .y ≡ c .before .before .before .before .args .m = omega (arith, c .loop-test .left, c .before .loop .inv .2) in
+    let e : c .before .loop .y ≡ c .before .before .before .args .m = omega (arith, c .loop-test .left, c .before .loop .inv .2) in
     passed-all _ _ _ (rw e at (c .before .loop .inv .0))
 
 pub next-relevant-spec : {M : Type 1} → statement M

@@ -5,7 +5,7 @@ use native.Mathlib.Omega.{arith}
 use lib.ListN.{replicate, length-replicate}
 use Rattle.ring.proofs.RequestLaws.{requests-length}
 use Rattle.matching.proofs.SettledLaws.{settled-maximum}
-use Rattle.matching.proofs.StartLaws.{matched-identity, start-settled, repeated}
+use Rattle.matching.proofs.StartLaws.{matched-identity, start-settled}
 use Rattle.matching.proofs.maxima.maximum.Statement.{statement}
 use Rattle.matching.proofs.maxima.maximum.Tie as tie
 
@@ -32,21 +32,19 @@ slice-aggregate-settle-alone c = sym (c .before .before .before .before .before 
 settle-alone-requires : tie.Need-settle-alone-requires
 settle-alone-requires c κs =
     let p = c .before .before .before .before .before .before .before .before .before .before .before .before .pre in
-    let blank : ℕ = 0 in (
-      record {
-        settled = start-settled _ _ (c .before .before .before .before .greedy .ensures) (c .before .before .before .before .before .before .before .identity .ensures) refl (length-replicate 512 blank) (length-replicate 512 blank);
-        number = sym (requests-length (c .before .before .before .before .before .before .before .before .before .before .before .before .args .ends .now));
-        most = omega arith;
-        mapped = record { valid = p; prefixes = c .before .before .before .before .before .before .before .before .before .prefixes .ensures };
-      },
-      λ z. repeated 512 z 0,
-    )
+    let blank : ℕ = 0 in
+    record {
+      settled = start-settled _ _ (c .before .before .before .before .greedy .ensures) (c .before .before .before .before .before .before .before .identity .ensures) refl (length-replicate 512 blank) (length-replicate 512 blank);
+      number = sym (requests-length (c .before .before .before .before .before .before .before .before .before .before .before .before .args .ends .now));
+      most = omega arith;
+      mapped = record { valid = p; prefixes = c .before .before .before .before .before .before .before .before .before .prefixes .ensures };
+    }
 
 slice-aggregate-search-from : tie.Need-slice-aggregate-search-from
 slice-aggregate-search-from c = sym (c .before .before .before .before .before .before .before .before .before .before .before .prefixes .ensures .many)
 
 search-from-requires : tie.Need-search-from-requires
-search-from-requires c κs = c .before .before .before .before .settle-alone .ensures
+search-from-requires c κs = c .before .before .before .before .settle-alone .ensures .0
 
 pair-count-requires : tie.Need-pair-count-requires
 pair-count-requires c κs =

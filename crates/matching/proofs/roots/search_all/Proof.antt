@@ -1,74 +1,62 @@
-use Prim.Native.Nat.{ℕ, _-_, _≤_}
-use mathlib.Core.Path.{_≡_, refl, sym, ap, _∙_}
-use mathlib.Core.Logic.{⊎-elim}
+-- `search_all`: a search settles its root, and `settle_alone` all requests up to the next one.
+use Prim.Native.Nat.{ℕ, _-_}
+use mathlib.Core.Path.{_≡_, refl, _∙_}
 use native.Mathlib.Omega.{arith}
-use lib.ListN.{length, getD, length-replicate}
+use lib.ListN.{length, length-replicate}
 use Rattle.ring.specs.Requests.{requestsOf}
-use Rattle.matching.specs.Arrays.{arrays}
-use Rattle.matching.specs.Search.{Square, Settled}
-use Rattle.matching.proofs.MaximumLaws.{open-exposed, open-free, open-not}
-use Rattle.matching.proofs.SearchLaws.{settled-skip, rested}
+use Rattle.matching.specs.Progress.{Rooted}
+use Rattle.matching.specs.Search.{Square}
+use Rattle.matching.proofs.SearchLaws.{rested}
 use Rattle.matching.proofs.roots.search_all.Statement.{statement}
 use Rattle.matching.proofs.roots.search_all.Tie as tie
 
 abbrev Inv-loop : tie.InvT-loop
 Inv-loop ends sets rows₀ mates₀ labels₀ bases₀ first m parents₀ queue₀ r₀ rows mates labels bases parents queue r =
-    Settled (requestsOf ends) (arrays mates labels bases parents queue 0) r × Square m rows × (r ≤ m) × (length rows ≡ length rows₀)
+    Rooted (requestsOf ends) sets mates labels bases r m × Square m rows × (length parents ≡ 512) × (length queue ≡ 512) × (length rows ≡ length rows₀)
 
 abbrev μ-loop : tie.MeasureT-loop
 μ-loop ends sets rows₀ mates₀ labels₀ bases₀ first m parents₀ queue₀ r₀ rows mates labels bases parents queue r = m - r
 
 loop-holds : tie.Need-loop-holds Inv-loop μ-loop
-loop-holds c = let p = c .before .pre in (p .0 .settled, p .1, p .0 .most, refl)
-
-is-open-requires : tie.Need-is-open-requires Inv-loop μ-loop
-is-open-requires c κs =
-    let inv = c .before .before .before .loop .inv in omega (arith, c .before .before .loop-test .taken, c .before .before .before .before .before .pre .0 .number, inv .0 .sized .few)
+loop-holds c = let p = c .before .pre in let blank : ℕ = 0 in (p .0, p .1, length-replicate 512 blank, length-replicate 512 blank, refl)
 
 search-requires : tie.Need-search-requires Inv-loop μ-loop
 search-requires c κs =
-    let head = c .before .before .before .before .before .before .before .before .before .before .before in
-    let inv = head .loop .inv in
-    let due = sym (c .before .before .before .before .before .before .before .is-open .ensures) ∙ c .before .before .before .before .before .before .if1 .taken in (
-      inv .0,
-      inv .1,
-      c .before .before .before .before .before .before .before .before .before .before .before .before .before .pre .0 .number,
-      c .before .before .before .before .before .before .before .before .before .before .loop-test .taken,
-      open-exposed (getD (head .loop .mates) (head .loop .r) 0) (head .loop .r) (getD (head .loop .labels) (head .loop .r) 0) due,
-      open-free (getD (head .loop .mates) (head .loop .r) 0) (head .loop .r) (getD (head .loop .labels) (head .loop .r) 0) due,
-      c .before .before .before .before .before .before .before .before .before .before .before .before .before .pre .0 .mapped,
-    )
+    let inv = c .before .before .before .before .before .before .before .loop .inv in
+    let due = inv .0 .due in
+    let inside = c .before .before .before .before .before .before .loop-test .taken in
+    (rested _ _ _ _ _ _ (inv .2) (inv .3) (due .settled), inv .1, due .number, inside, inv .0 .exposed inside, inv .0 .free inside, due .mapped)
 
-add-r : tie.Need-add-r Inv-loop μ-loop
-add-r c = omega (arith, c .before .before .before .before .loop-test .taken)
+add-settle-alone : tie.Need-add-settle-alone Inv-loop μ-loop
+add-settle-alone c = omega (arith, c .before .before .before .before .before .before .before .before .before .before .before .loop-test .taken)
+
+settle-alone-requires : tie.Need-settle-alone-requires Inv-loop μ-loop
+settle-alone-requires c κs =
+    let due = c .before .before .before .before .before .before .before .before .before .before .before .before .loop .inv .0 .due in
+    let blank : ℕ = 0 in
+    record {
+      settled = rested _ _ _ _ _ _ (length-replicate 512 blank) (length-replicate 512 blank) (c .before .before .before .before .search .ensures .0);
+      number = due .number;
+      most = omega (arith, c .before .before .before .before .before .before .before .before .before .before .before .loop-test .taken);
+      mapped = due .mapped;
+    }
 
 loop-less : tie.Need-loop-less Inv-loop μ-loop
-loop-less c = omega (arith, c .before .before .before .before .loop-test .taken)
+loop-less c = omega (arith, c .before .before .before .before .before .before .before .before .before .before .before .before .loop-test .taken, c .settle-alone .ensures .1)
 
 loop-again : tie.Need-loop-again Inv-loop μ-loop
 loop-again c =
-    let head = c .before .before .before .before .before in
-    let inv = head .loop .inv in
-    let inside = c .before .before .before .before .loop-test .taken in
-    ⊎-elim
-    (λ w. (rw (w .10, w .11, w .12, w .13, w .14) (w .7 .ensures .0), rw (w .9) (w .7 .ensures .1), omega (arith, inside), ap length (w .9) ∙ (w .7 .kept .1 .1 .0 ∙ inv .3)))
-    (λ w. (
-      rw (w .2, w .3, w .4, w .5, w .6) (settled-skip _ _ _ (inv .0) (rw (c .before .before .before .before .before .before .before .pre .0 .number) at inside) (open-not (getD (head .loop .mates) (head .loop .r) 0) (head .loop .r) (getD (head .loop .labels) (head .loop .r) 0) (sym (c .before .is-open .ensures) ∙ w .0 .left))),
-      rw (w .1) (inv .1),
-      omega (arith, inside),
-      ap length (w .1) ∙ inv .3,
-    ))
-    (c .if1 .came)
+    let after = c .before .before .before .before .before .search in
+    (c .settle-alone .ensures .0, after .ensures .1, after .ensures .0 .sized .parents, after .ensures .0 .sized .queue, after .kept .1 .1 .0 ∙ c .before .before .before .before .before .before .before .before .before .before .before .before .before .loop .inv .4)
 
 same-length : tie.Need-same-length Inv-loop μ-loop
-same-length c = c .before .loop .inv .3
+same-length c = c .before .loop .inv .4
 
 returns : tie.Need-returns Inv-loop μ-loop
 returns c =
-    let inv = c .before .loop .inv in
-    let blank : ℕ = 0 in
-    let over : c .before .loop .r ≡ c .before .before .before .args .m = omega (arith, c .loop-test .left, inv .2) in
-    rested _ _ _ _ _ _ (length-replicate 512 blank) (length-replicate 512 blank) (rw over at (inv .0))
+    let due = c .before .loop .inv .0 .due in
+    let over : c .before .loop .r ≡ c .before .before .before .args .m = omega (arith, c .loop-test .left, due .most) in
+    rw over at (due .settled)
 
 pub search-all-spec : {M : Type 1} → statement M
 search-all-spec =
@@ -77,9 +65,9 @@ search-all-spec =
     Inv-loop
     μ-loop
     loop-holds
-    is-open-requires
     search-requires
-    add-r
+    add-settle-alone
+    settle-alone-requires
     loop-less
     loop-again
     same-length

@@ -3,7 +3,7 @@ use Rattle.matching.proofs.roots.search_from.Statement.{statement}
 use Rattle.matching.proofs.roots.search_from.Tie as tie
 
 returns : tie.Need-returns
-returns c = rw (c .if1 .taken) at (c .before .before .pre .settled)
+returns c = rw (c .if1 .taken) at (c .before .before .pre .due .settled)
 
 with-64-rows-requires : tie.Need-with-64-rows-requires
 with-64-rows-requires c κs = (c .before .before .before .before .before .before .pre, c .before .before .before .if2 .taken)
@@ -24,7 +24,7 @@ returns-4 : tie.Need-returns-4
 returns-4 c = c .with-256-rows .ensures
 
 with-512-rows-requires : tie.Need-with-512-rows-requires
-with-512-rows-requires c κs = let p = c .before .before .before .before .before .before .before .before .pre in (p, omega (arith, p .number, p .settled .sized .few))
+with-512-rows-requires c κs = let p = c .before .before .before .before .before .before .before .before .pre in (p, omega (arith, p .due .number, p .due .settled .sized .few))
 
 returns-5 : tie.Need-returns-5
 returns-5 c = c .with-512-rows .ensures

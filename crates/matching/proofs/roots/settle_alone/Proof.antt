@@ -1,55 +1,58 @@
-use Prim.Native.Nat.{ℕ, _-_, _<_, _≤_}
+-- `settle_alone`: each open request that it passes is frozen as a search from it would; any other needs no search.
+use Prim.Native.Nat.{_-_, _≤_}
 use mathlib.Core.Path.{_≡_, sym, _∙_}
-use mathlib.Core.Logic.{⊎-elim, inl}
+use mathlib.Core.Logic.{⊎-elim}
 use native.Mathlib.Omega.{arith}
-use lib.ListN.{length, getD}
+use lib.ListN.{getD}
 use Rattle.ring.specs.Requests.{requestsOf}
-use Rattle.matching.specs.Arrays.{rest}
-use Rattle.matching.specs.Search.{Settled}
+use Rattle.matching.specs.Progress.{Due}
 use Rattle.matching.proofs.AdjacencyLaws.{adjacent-symmetric}
-use Rattle.matching.proofs.AloneLaws.{Quiet, quiet-set, free-past, not-not, alone-settles}
+use Rattle.matching.proofs.AloneLaws.{not-not, alone-settles}
+use Rattle.matching.proofs.MaximumLaws.{open-exposed, open-free, open-not}
 use Rattle.matching.proofs.SearchLaws.{settled-skip}
 use Rattle.matching.proofs.roots.settle_alone.Statement.{statement}
 use Rattle.matching.proofs.roots.settle_alone.Tie as tie
 
 abbrev Inv-loop : tie.InvT-loop
-Inv-loop ends sets mates labels₀ bases₀ m r₀ labels bases r =
-    Settled (requestsOf ends) (rest mates labels bases) r × (r ≤ m) × Quiet labels × ((z : ℕ) → r ≤ z → getD labels z 0 ≡ 0)
+Inv-loop ends sets mates labels₀ bases₀ from m r₀ labels bases r = Due (requestsOf ends) sets mates labels bases r m × (from ≤ r)
 
 abbrev μ-loop : tie.MeasureT-loop
-μ-loop ends sets mates labels₀ bases₀ m r₀ labels bases r = m - r
+μ-loop ends sets mates labels₀ bases₀ from m r₀ labels bases r = m - r
 
 loop-holds : tie.Need-loop-holds Inv-loop μ-loop
-loop-holds c = let p = c .before .pre in (p .0 .settled, omega arith, λ z. inl (p .1 z), λ z l. p .1 z)
+loop-holds c = (c .before .pre, omega arith)
 
-mul-wide : tie.Need-mul-wide Inv-loop μ-loop
-mul-wide c = let p = c .before .before .before .pre .0 in omega (arith, c .loop-test .taken, p .number, p .settled .sized .few)
-
-element-copy-out-wide : tie.Need-element-copy-out-wide Inv-loop μ-loop
-element-copy-out-wide c = let p = c .before .before .before .pre .0 in omega (arith, c .loop-test .taken, p .number, p .settled .sized .few)
-
-wide-requires : tie.Need-wide-requires Inv-loop μ-loop
-wide-requires c κs = _
+is-open-requires : tie.Need-is-open-requires Inv-loop μ-loop
+is-open-requires c κs =
+    let due = c .before .before .loop .inv .0 in omega (arith, c .before .loop-test .taken, due .number, due .settled .sized .few)
 
 alone-requires : tie.Need-alone-requires Inv-loop μ-loop
-alone-requires c κs = let p = c .before .before .before .before .before .before .pre .0 in (p .number, c .before .before .before .loop-test .taken, p .mapped)
+alone-requires c κs =
+    let due = c .before .before .before .before .loop .inv .0 in (due .number, c .before .before .before .loop-test .taken, due .mapped)
 
 returns : tie.Need-returns Inv-loop μ-loop
 returns c =
-    let p = c .before .before .before .before .before .before .before .before .pre .0 in
-    record { settled = c .before .before .before .before .before .before .loop .inv .0; number = p .number; most = c .before .before .before .before .before .before .loop .inv .1; mapped = p .mapped }
+    let head = c .before .before .before .before .before .before in
+    let test = sym (c .before .before .before .is-open .ensures) ∙ c .before .before .if1 .taken in
+    let mate = getD (head .before .before .args .mates .now) (head .loop .r) 0 in
+    let label = getD (head .loop .labels) (head .loop .r) 0 in
+    (record { due = head .loop .inv .0; exposed = λ h. open-exposed mate (head .loop .r) label test; free = λ h. open-free mate (head .loop .r) label test }, head .loop .inv .1)
 
 element-write-labels : tie.Need-element-write-labels Inv-loop μ-loop
-element-write-labels c = let p = c .before .before .before .before .before .before .before .before .pre .0 in omega (arith, c .before .before .before .before .before .loop-test .taken, p .number, p .settled .sized .few)
+element-write-labels c =
+    let due = c .before .before .before .before .before .before .loop .inv .0 in omega (arith, c .before .before .before .before .before .loop-test .taken, due .number, due .settled .sized .few)
 
 cast-bases : tie.Need-cast-bases Inv-loop μ-loop
-cast-bases c = let p = c .before .before .before .before .before .before .before .before .pre .0 in omega (arith, c .before .before .before .before .before .loop-test .taken, p .number, p .settled .sized .few)
+cast-bases c =
+    let due = c .before .before .before .before .before .before .loop .inv .0 in omega (arith, c .before .before .before .before .before .loop-test .taken, due .number, due .settled .sized .few)
 
 mul-bases : tie.Need-mul-bases Inv-loop μ-loop
-mul-bases c = let p = c .before .before .before .before .before .before .before .before .pre .0 in omega (arith, c .before .before .before .before .before .loop-test .taken, p .number, p .settled .sized .few)
+mul-bases c =
+    let due = c .before .before .before .before .before .before .loop .inv .0 in omega (arith, c .before .before .before .before .before .loop-test .taken, due .number, due .settled .sized .few)
 
 element-write-bases : tie.Need-element-write-bases Inv-loop μ-loop
-element-write-bases c = let p = c .before .before .before .before .before .before .before .before .pre .0 in omega (arith, c .before .before .before .before .before .loop-test .taken, p .number, p .settled .sized .few)
+element-write-bases c =
+    let due = c .before .before .before .before .before .before .loop .inv .0 in omega (arith, c .before .before .before .before .before .loop-test .taken, due .number, due .settled .sized .few)
 
 add-r : tie.Need-add-r Inv-loop μ-loop
 add-r c = omega (arith, c .before .before .before .loop-test .taken)
@@ -59,34 +62,39 @@ loop-less c = omega (arith, c .before .before .before .loop-test .taken)
 
 loop-again : tie.Need-loop-again Inv-loop μ-loop
 loop-again c =
-    let p = c .before .before .before .before .before .before .pre .0 in
     let head = c .before .before .before .before in
-    let inv = head .loop .inv in
+    let due = head .loop .inv .0 in
     let taken = c .before .before .before .loop-test .taken in
-    let inside = rw (p .number) at taken in
-    let zero = inv .3 (head .loop .r) (omega arith) in
-    let room : head .loop .r < length (head .loop .labels) = omega (arith, inside, inv .0 .sized .labels, inv .0 .sized .few) in
+    let inside = rw (due .number) at taken in
+    let mate = getD (head .before .before .args .mates .now) (head .loop .r) 0 in
+    let label = getD (head .loop .labels) (head .loop .r) 0 in
+    let came = sym (c .before .is-open .ensures) in
     ⊎-elim
     (λ w. (
-      rw (w .3, w .4) (alone-settles _ (adjacent-symmetric (c .before .before .before .before .before .before .args .ends .now)) _ _ _ _ (inv .0) inside (sym (c .before .wide .ensures) ∙ w .0 .taken) (omega (arith, zero)) (inv .2) (w .1 .ensures (not-not (w .1 .result) (w .2 .left)))),
-      omega (arith, taken),
-      rw (w .3) (quiet-set (head .loop .labels) (head .loop .r) room (inv .2)),
-      rw (w .3) (free-past (head .loop .labels) (head .loop .r) (inv .3)),
+      record {
+        settled = rw (w .3, w .4) (alone-settles _ (adjacent-symmetric (head .before .before .args .ends .now)) _ _ _ _ (due .settled) inside (open-exposed mate (head .loop .r) label (came ∙ w .0 .taken)) (open-free mate (head .loop .r) label (came ∙ w .0 .taken)) (w .1 .ensures (not-not (w .1 .result) (w .2 .left))));
+        number = due .number;
+        most = omega (arith, taken);
+        mapped = due .mapped;
+      },
+      omega (arith, head .loop .inv .1),
     ))
     (λ w. (
-      rw (w .1, w .2) (settled-skip _ _ _ (inv .0) inside (λ e. absurd (w .0 .left (c .before .wide .ensures ∙ e)))),
-      omega (arith, taken),
-      rw (w .1) (inv .2),
-      rw (w .1) (λ z l. inv .3 z (omega arith)),
+      record {
+        settled = rw (w .1, w .2) (settled-skip _ _ _ (due .settled) inside (open-not mate (head .loop .r) label (came ∙ w .0 .left)));
+        number = due .number;
+        most = omega (arith, taken);
+        mapped = due .mapped;
+      },
+      omega (arith, head .loop .inv .1),
     ))
     (c .if1 .came)
 
 returns-2 : tie.Need-returns-2 Inv-loop μ-loop
 returns-2 c =
-    let p = c .before .before .before .pre .0 in
-    let inv = c .before .loop .inv in
-    let over : c .before .loop .r ≡ c .before .before .before .args .m = omega (arith, c .loop-test .left, inv .1) in
-    record { settled = rw over at (inv .0); number = p .number; most = omega arith; mapped = p .mapped }
+    let due = c .before .loop .inv .0 in
+    let over : c .before .loop .r ≡ c .before .before .before .args .m = omega (arith, c .loop-test .left, due .most) in
+    (record { due = rw over at due; exposed = λ h. absurd (omega arith); free = λ h. absurd (omega arith) }, omega (arith, c .before .loop .inv .1))
 
 pub settle-alone-spec : {M : Type 1} → statement M
 settle-alone-spec =
@@ -95,9 +103,7 @@ settle-alone-spec =
     Inv-loop
     μ-loop
     loop-holds
-    mul-wide
-    element-copy-out-wide
-    wide-requires
+    is-open-requires
     alone-requires
     returns
     element-write-labels

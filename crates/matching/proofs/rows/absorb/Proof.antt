@@ -4,7 +4,8 @@ use mathlib.Core.Path.{_≡_, refl, _∙_}
 use native.Mathlib.Omega.{arith}
 use lib.ListN.{length}
 use Rattle.matching.proofs.RowLaws.{readable-turned}
-use Rattle.matching.proofs.AbsorbLaws.{AbsorbedBelow, absorb-start, absorb-skip, absorb-turn, absorb-end, same-mixed}
+use Rattle.matching.proofs.AbsorbLaws.{AbsorbedBelow, absorb-start, absorb-skip, absorb-turn, absorb-end}
+use Rattle.matching.proofs.MendLaws.{same-unmixed}
 use Rattle.matching.proofs.rows.absorb.Statement.{statement}
 use Rattle.matching.proofs.rows.absorb.Tie as tie
 
@@ -39,9 +40,10 @@ absorb-vertex-requires c κs =
       head .loop .inv .1 .square,
       readable,
       omega arith,
+      start .pre .2 _ (omega arith),
       sparse .joined-words,
-      λ e. same-mixed _ _ _ _ _ kept _ _ _ _ readable (sparse .first _ (omega arith) e),
-      λ e. same-mixed _ _ _ _ _ kept _ _ _ _ (readable-turned readable) (sparse .second _ (omega arith) e),
+      λ e. same-unmixed _ _ _ _ _ kept _ _ _ _ readable (sparse .first _ (omega arith) e),
+      λ e. same-unmixed _ _ _ _ _ kept _ _ _ _ (readable-turned readable) (sparse .second _ (omega arith) e),
     )
 
 add-next : tie.Need-add-next Inv-loop μ-loop
