@@ -9,8 +9,8 @@ use neighbours::prefixes;
 ghost use Rattle.ring.specs.Requests.{requestsOf, ValidRequests};
 ghost use Rattle.matching.specs.Maximum.{MaximumMatching};
 
-// A maximum matching among the requests of a list: it starts from a matching that takes what comes first, and searches from each exposed request
-// for a larger one. O(m³) for m requests.
+// A maximum matching among the requests of a list: it starts from a matching that is found fast, and searches from each exposed request for a
+// larger one. O(m³) for m requests.
 pub fn maximum(ends: &[u16]) -> Matching
     requires { ⌜ ValidRequests 256 (requestsOf (now ends)) ⌝ }
     ensures { λ r. ⌜ MaximumMatching (requestsOf (now (ends .entry))) r ⌝ }
