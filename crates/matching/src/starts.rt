@@ -71,14 +71,17 @@ fn better(mates: &[u16; 512], sizes: &[u16; 512], i: usize, best: usize, j: usiz
     best
 }
 
-// Whether a partner for i is found whose set is not above `high`.
-fn is_small(sizes: &[u16; 512], i: usize, best: usize, high: u16) -> bool
+// Whether a partner for i is found that will do: one whose set is not above `high`, or any where sets are large, since all would be looked at.
+fn will_do(sizes: &[u16; 512], i: usize, best: usize, high: u16) -> bool
     requires { ⌜ best < 512 ⌝ }
 {
-    best != i && sizes[best] <= high
+    if best == i {
+        return false;
+    }
+    128 <= high || sizes[best] <= high
 }
 
-// The exposed request with the smallest set among those adjacent to i, or i itself; the first whose set is not above `high` will do.
+// The exposed request with the smallest set among those adjacent to i, or i itself; one that will do is taken at once.
 fn partner(
     ends: &[u16],
     sets: &[[u64; 8]],
@@ -97,7 +100,7 @@ fn partner(
     let mut j = next(&around, 0, m);
     while j < m {
         best = better(mates, sizes, i, best, j);
-        if is_small(sizes, i, best, high) {
+        if will_do(sizes, i, best, high) {
             return best;
         }
         j = next(&around, j + 1, m);

@@ -33,8 +33,8 @@ better-requires c κs =
     let p = c .before .before .before .before .before .before .before .pre in
     (omega (arith, p .0, p .1, c .before .loop .inv .2 .inside), omega (arith, p .1, c .loop-test .taken))
 
-is-small-requires : tie.Need-is-small-requires Inv-loop μ-loop
-is-small-requires c κs = c .better .ensures .0
+will-do-requires : tie.Need-will-do-requires Inv-loop μ-loop
+will-do-requires c κs = c .better .ensures .0
 
 returns : tie.Need-returns Inv-loop μ-loop
 returns c =
@@ -71,7 +71,7 @@ partner-spec =
     next-requires
     loop-holds
     better-requires
-    is-small-requires
+    will-do-requires
     returns
     add-next
     next-requires-2
