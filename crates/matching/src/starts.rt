@@ -5,7 +5,7 @@ use ring::ways::larger;
 use sets::next;
 ghost use mathlib.Core.Path.{_≡_};
 ghost use mathlib.Core.Logic.{_⊎_};
-ghost use Prim.Native.Nat.{_<_, _≤_};
+ghost use Prim.Native.Nat.{_+_, _<_, _≤_};
 ghost use lib.ListN.{length, getD};
 ghost use Rattle.ring.specs.Requests.{requestsOf};
 ghost use Rattle.matching.specs.Progress.{Mapped};
@@ -81,6 +81,17 @@ fn will_do(sizes: &[u16; 512], i: usize, best: usize, high: u16) -> bool
     128 <= high || sizes[best] <= high
 }
 
+// Where the look for a partner of i begins: where sets are large, behind i, since those before it find i at their own turn.
+fn look_from(i: usize, high: u16) -> usize
+    requires { ⌜ i < 512 ⌝ }
+    ensures { λ r. ⌜ r ≤ i + 1 ⌝ }
+{
+    if 128 <= high {
+        return i + 1;
+    }
+    0
+}
+
 // The exposed request with the smallest set among those adjacent to i, or i itself; one that will do is taken at once.
 fn partner(
     ends: &[u16],
@@ -97,7 +108,7 @@ fn partner(
     let mut around = [0u64; 8];
     neighbours(ends, sets, i, &mut around);
     let mut best = i;
-    let mut j = next(&around, 0, m);
+    let mut j = next(&around, look_from(i, high), m);
     while j < m {
         best = better(mates, sizes, i, best, j);
         if will_do(sizes, i, best, high) {
