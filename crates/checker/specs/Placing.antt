@@ -8,7 +8,7 @@ use Rattle.ring.specs.declared.fates.Fate.{Fate}
 use Rattle.ring.specs.declared.fates.Fate.the-variants.{Blocked, Served}
 use Rattle.links.specs.Links.{Held}
 
--- a request that is served holds the links of its way in its colour, if they are free; one that is blocked holds none
+-- a request that is served comes to hold the links of its way in its colour, and whether all were free is said; one that is blocked holds none
 unfoldable pub Placing : List (List ℕ) → List (List ℕ) → Fate → Request → Bool → Type 0
 Placing rows after Blocked r free = (after ≡ rows) × (free ≡ true)
 Placing rows after (Served way colour) r free = Held rows after way r colour free
