@@ -1,6 +1,6 @@
 /*
- * Ring planner and ring book: the C interface of the library that
- * `rt staticlib export` writes to target/staticlib/libexport.a.
+ * Tarziloen, the ring planner and ring book: the C interface of the library
+ * that `rt staticlib export` writes to target/staticlib/libexport.a.
  *
  * A ring has n nodes, 0 to n-1, and w colours, 0 to w-1. Link i joins node i
  * and node i+1; link n-1, the seam, joins node n-1 and node 0. A request or a
@@ -31,7 +31,7 @@
  *    9  the way is not 0 (plain) or 1 (seam)
  *   10  the colour is w or more
  *   11  the colour is held on a link of the way
- *   12  512 circuits are live
+ *   12  512 circuits are live, and the book has no other place
  *   13  serial 65,535 has been given
  *   14  the serial is 0 or was never given
  *   15  the order was removed
@@ -40,7 +40,8 @@
  *   18  the length is 0, not a multiple of 512, above 5,120, or above the
  *       buffer's own
  *   19  a block has a wrong number or check
- *   20  the bytes are no stored form of a book
+ *   20  the bytes break the stored form, a limit, the rising serials from 1
+ *       up to the grants so far, or feasibility
  *   21  the text is longer than 8,192 bytes or not of the stated form; only
  *       printed, by tarziloen_answer
  *

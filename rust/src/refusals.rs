@@ -25,7 +25,7 @@ impl Refusal {
             9 => "way not 0 (plain) or 1 (seam)",
             10 => "colour w or more",
             11 => "that colour is held on a link of the way",
-            12 => "512 circuits live",
+            12 => "512 circuits are live, and the book has no other place",
             13 => "serial 65,535 has been given",
             14 => "serial 0 or never given",
             15 => "removed",
@@ -33,7 +33,10 @@ impl Refusal {
             17 => "buffer shorter than the length",
             18 => "length 0, not a multiple of 512, or above 5,120",
             19 => "a wrong block number or check",
-            20 => "a record with fate number 0, or anything else that breaks the stored form",
+            20 => {
+                "a record with fate number 0, or anything else that breaks the stored form, a limit, \
+                the rising serials from 1 up to the grants so far, or feasibility"
+            }
             21 => "more than 8,192 bytes, or a text not of the stated form",
             _ => "unknown",
         }

@@ -1,8 +1,10 @@
-//! The planner against a second one, on random and adversarial lists; two thirds against every plan on small rings.
+//! The planner against a second one and a second checker, on random and adversarial lists; its bounds against every plan and
+//! every matching of small lists.
 mod reference;
 
-use reference::{best_plan, chain_count, match_count, requests, Random};
-use ring_planner::{check, plan, Part};
+use reference::matchings::{largest_matching, match_count};
+use reference::{best_plan, chain_count, check, requests, Random};
+use ring_planner::{plan, Part};
 
 /// Plans a list and compares all that is said of the plan with the second planner.
 fn compare(n: u16, w: u16, ends: &[u16]) -> u16 {
@@ -32,7 +34,7 @@ fn compare(n: u16, w: u16, ends: &[u16]) -> u16 {
         }
     );
     assert_eq!(&table[m..], &[9999, 9999, 9999], "entries past m stay");
-    let served = check(n, w, ends, &table).expect("the plan is feasible");
+    let served = check(n as usize, w as usize, &list, &table).expect("the plan is feasible");
     assert_eq!(served as usize, chain.max(paired));
     served
 }
@@ -118,7 +120,7 @@ fn counts_agree_on_many_lists() {
 }
 
 #[test]
-fn two_thirds_of_the_best_plan_on_small_rings() {
+fn bounds_on_small_rings_by_trying_all() {
     let mut random = Random::new(2);
     let (mut lists, mut tight) = (0, 0);
     for _ in 0..1500 {
@@ -126,16 +128,31 @@ fn two_thirds_of_the_best_plan_on_small_rings() {
         let m = random.below(6);
         let w = 1 + random.below(2);
         let ends = random_list(&mut random, n, m);
+        let list = requests(&ends);
         let served = compare(n as u16, w as u16, &ends) as usize;
-        let best = best_plan(n as usize, w as usize, &requests(&ends));
+        let (n, w) = (n as usize, w as usize);
+        let best = best_plan(n, w, &list, None);
         assert!(
             2 * best <= 3 * served,
             "n {n} w {w} {ends:?}: {served} of {best}"
         );
+        assert_eq!(chain_count(w, &list), best_plan(n, w, &list, Some(n - 1)));
         lists += 1;
         tight += usize::from(2 * best == 3 * served && best > 0);
     }
     println!("{lists} lists against every plan, the bound met exactly on {tight}");
+}
+
+#[test]
+fn match_counts_on_small_lists_by_trying_all() {
+    let mut random = Random::new(5);
+    for _ in 0..3000 {
+        let (n, m) = (3 + random.below(14), random.below(11));
+        let ends = random_list(&mut random, n, m);
+        compare(n as u16, 3, &ends);
+        let list = requests(&ends);
+        assert_eq!(match_count(&list), largest_matching(&list), "{ends:?}");
+    }
 }
 
 #[test]

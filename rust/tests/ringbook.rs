@@ -1,25 +1,25 @@
-//! Sessions with program `ringbook`: every command, every refusal, unreadable lines and files, and long random sessions.
+//! Commands to program `ringbook`: every command and refusal, lines as people type them, and long random sessions.
 mod desk;
 mod reference;
 
-use std::fs;
-use std::os::unix::fs::{symlink, MetadataExt};
-
-use desk::{draw_line, refused, run, Folder, NaiveSession};
-use reference::books::NaiveBook;
+use desk::{
+    draw_line, many, not_understood, refused, run, Folder, NaiveDesk, BOOK_THERE, HELP, NO_BOOK,
+    TOO_LONG, UNFINISHED,
+};
 use reference::stored::encode;
 use reference::Random;
 
 /// Case T7 of the rules, and every other command.
-const SESSION: [(&str, &str); 17] = [
-    ("count", "error no book"),
+const SESSION: [(&str, &str); 19] = [
+    ("count", "error there is no book yet (open N W begins one)"),
     ("open 4 1", "opened 4 1"),
-    ("open 4 1", "error a book is open"),
+    ("open 4 1", "error there is a book in the file already"),
     ("grant 0 2 0 0", "granted 1"),
     ("grant 3 2 0 0", "granted 2"),
     ("holder 2 0", "held 2"),
     ("holder 3 0", "free"),
     ("show 2", "circuit 2 3 P 0"),
+    ("list", "order 1 0 2 P 0\norder 2 2 3 P 0"),
     ("remove 1", "removed 1"),
     ("grant 0 1 0 0", "granted 3"),
     ("remove 2", "removed 2"),
@@ -28,6 +28,7 @@ const SESSION: [(&str, &str); 17] = [
     ("show 4", "circuit 1 2 S 0"),
     ("holder 0 0", "held 4"),
     ("holder 1 0", "free"),
+    ("list", "order 4 1 2 S 0"),
     ("count", "live 1 grants 4"),
 ];
 
@@ -39,34 +40,23 @@ fn lines<'a>(words: impl Iterator<Item = &'a str>) -> String {
 fn every_command_in_pieces_of_every_size() {
     let input = lines(SESSION.iter().map(|(command, _)| *command));
     let want = lines(SESSION.iter().map(|(_, answer)| *answer));
-    let mut naive = NaiveSession::default();
+    let mut naive = NaiveDesk::default();
     assert_eq!(naive.answers(&input), want);
-    let form = encode(&naive.0.unwrap());
     for piece in [1, 2, 7, 4096] {
         let folder = Folder::new("commands");
         let run = run(folder.program().arg("book"), input.as_bytes(), piece);
         assert_eq!((run.output, run.errors), (want.clone(), String::new()));
         assert!(run.status.success());
-        assert_eq!(folder.bytes("book").as_ref(), Some(&form));
+        assert_eq!(folder.bytes("book"), naive.bytes());
         assert_eq!(folder.bytes("book.new"), None);
         assert_eq!(
             folder.answer("show 4\nopen 3 1\n"),
-            "circuit 1 2 S 0\nerror a book is open\n"
+            format!("circuit 1 2 S 0\n{BOOK_THERE}")
         );
     }
 }
 
-/// A book of 256 nodes with circuits of one link each.
-fn many(live: u16, grants: u16) -> NaiveBook {
-    let mut book = NaiveBook::open(256, 4).unwrap();
-    for i in 0..live {
-        book.grant([i % 255, i % 255 + 1], 0, i / 255).unwrap();
-    }
-    book.grants = grants;
-    book
-}
-
-/// Refused with no book open.
+/// Refused where there is no book yet.
 const WITHOUT_BOOK: [(&str, u16); 4] = [
     ("open 2 0", 1),
     ("open 257 1", 1),
@@ -98,9 +88,10 @@ fn every_refusal() {
     for (command, number) in WITHOUT_BOOK {
         assert_eq!(
             folder.answer(&format!("{command}\ncount\n")),
-            refused(number) + "error no book\n"
+            refused(number) + NO_BOOK
         );
         assert_eq!(folder.bytes("book"), None);
+        assert_eq!(folder.bytes("book.new"), None);
     }
     let form = Some(encode(&many(512, 600)));
     folder.put("book", &form);
@@ -111,7 +102,12 @@ fn every_refusal() {
             "{command}"
         );
         assert_eq!(folder.bytes("book"), form, "a refusal changes nothing");
+        assert_eq!(folder.bytes("book.new"), None);
     }
+    assert_eq!(
+        folder.answer("list\n"),
+        NaiveDesk(Some(many(512, 600))).answers("list\n")
+    );
     let late = encode(&many(5, 65534));
     folder.put("book", &Some(late));
     let input = "grant 7 8 0 0\ngrant 8 9 0 0\nremove 65535\ngrant 7 8 0 0\ncount\n";
@@ -129,21 +125,16 @@ fn every_refusal() {
 
 /// Lines that are no command.
 #[rustfmt::skip]
-const BROKEN: [&str; 34] = [
-    "", " ", "count ", " count", "Count", "count 1", "counts", "show", "show ", "show  1",
-    "show 1 ", "show 1 1", "show 000001", "show 65536", "show 99999", "show 100000", "show -1",
-    "show +1", "show 1a", "show 0x1", "show\t1", "show 1\r", "show 1\0", "show \u{663}", "open 4",
-    "open 4 1 1", "open 4  1", "grant 0 1 0", "grant 0 1 0 0 0", "grant 0 1 P 0", "remove",
-    "holder 1", "holder 1 1 1", "close",
+const BROKEN: [&str; 31] = [
+    "Count", "count 1", "counts", "show", "show ", "show 1 1", "show 000001", "show 65536", "show 99999",
+    "show 100000", "show -1", "show +1", "show 1a", "show 0x1", "show\t1", "show 1\r", "show 1\0",
+    "show \u{663}", "sh ow 1", "open 4", "open 4 1 1", "grant 0 1 0", "grant 0 1 0 0 0", "grant 0 1 P 0",
+    "remove", "holder 1", "holder 1 1 1", "help me", "lists", "\t", "close",
 ];
 
 #[test]
-fn unreadable_lines() {
-    let long = [
-        "count ".to_string() + &" ".repeat(60),
-        "show 1".repeat(2000),
-        "9".repeat(100_000),
-    ];
+fn lines_that_are_no_command() {
+    let long = ["show 1".repeat(150), "9".repeat(1023)];
     let around = (55..75).map(|length| format!("show {:0>length$}", 1));
     let all: Vec<String> = BROKEN
         .iter()
@@ -152,112 +143,94 @@ fn unreadable_lines() {
         .chain(around)
         .collect();
     let folder = Folder::new("unreadable");
-    let input = format!(
-        "open 4 1\n{}\ngrant 00000 00002 0 000\n{}",
-        all.join("\n"),
-        "count"
-    );
+    let input = format!("open 4 1\n{}\ngrant 00000 00002 0 000\n", all.join("\n"));
     let want = format!(
-        "opened 4 1\n{}granted 1\n{}",
-        "error unreadable command\n".repeat(all.len()),
-        "error unreadable command\n"
+        "opened 4 1\n{}granted 1\n",
+        all.iter().map(|l| not_understood(l)).collect::<String>()
     );
     assert_eq!(folder.answer(&input), want);
-    let mut naive = NaiveSession::default();
+    let mut naive = NaiveDesk::default();
     assert_eq!(naive.answers(&input), want);
-    assert_eq!(folder.bytes("book"), naive.0.map(|book| encode(&book)));
+    assert_eq!(folder.bytes("book"), naive.bytes());
+    assert_eq!(
+        not_understood("show  1 and more"),
+        "error not understood: show 1 and more (help lists the commands)\n"
+    );
+    println!("{} lines that are no command", all.len());
+}
+
+#[test]
+fn as_people_type() {
+    let folder = Folder::new("typed");
     assert_eq!(folder.answer(""), "");
+    assert_eq!(folder.answer("\n\n   \n"), "");
+    assert_eq!(folder.bytes("book"), None);
+    assert_eq!(folder.answer("help\n  help  \n"), HELP.repeat(2));
+    assert_eq!(
+        folder.answer("  open   4  1 \n\ngrant 0  2 0   0\n count\nlist \n"),
+        "opened 4 1\ngranted 1\nlive 1 grants 1\norder 1 0 2 P 0\n"
+    );
     assert_eq!(
         folder.answer("show 00001\nshow 65535\n"),
         format!("circuit 0 2 P 0\n{}", refused(14))
     );
-    println!("{} unreadable lines", all.len() + 1);
+    let names: Vec<&str> = HELP.lines().map(|l| l.split(' ').next().unwrap()).collect();
+    assert_eq!(
+        names.join(" "),
+        "open grant remove show holder count list help"
+    );
 }
 
 #[test]
-fn files_that_are_no_book() {
-    let folder = Folder::new("files");
-    let form = encode(&many(70, 70));
-    let damaged = |at: usize| {
-        let mut bytes = form.clone();
-        bytes[at] ^= 1;
-        bytes
-    };
-    let files = [
-        (vec![], 18),
-        (form[..form.len() - 1].to_vec(), 18),
-        ([&form[..], b"\n"].concat(), 18),
-        (vec![0; 5632], 18),
-        (vec![0; 1 << 20], 18),
-        (damaged(0), 19),
-        (damaged(form.len() - 1), 19),
-        (form[..1024].to_vec(), 20),
-        (vec![0; 512], 20),
-    ];
-    for (bytes, number) in files {
-        let file = Some(bytes);
-        folder.put("book", &file);
-        assert_eq!(folder.answer("open 4 1\ncount\n"), refused(number));
-        assert_eq!(folder.bytes("book"), file, "the file stays");
+fn lines_without_end_and_long_lines() {
+    let folder = Folder::new("long");
+    folder.answer("open 4 1\n");
+    let form = folder.bytes("book");
+    for input in ["grant 0 1 0 0", "c", " ", "open 4 1", "grant 0 1 0 0\r"] {
+        assert_eq!(folder.answer(input), UNFINISHED, "{input:?}");
     }
-    let unread = "error the file cannot be read\n";
-    fs::create_dir(folder.file("folder")).unwrap();
-    symlink("loop", folder.file("loop")).unwrap();
-    let long = "x".repeat(300);
-    let longer = "x/".repeat(3000);
-    for name in ["folder", "loop", "book/book", &long, &longer] {
-        let run = run(folder.program().arg(name), b"open 4 1\n", 4096);
-        assert_eq!(run.output, unread);
+    assert_eq!(folder.answer("count\ngrant 0 1 0 0").lines().count(), 2);
+    assert_eq!(folder.bytes("book"), form, "half a line changes nothing");
+    // Spaces count as one: the longest line that is obeyed has 1,024 bytes with its line feed.
+    let spaced = |length: usize| format!("count{}\n", " ".repeat(length - 6));
+    for length in [1000, 1023, 1024] {
+        assert_eq!(folder.answer(&spaced(length)), "live 0 grants 0\n");
     }
-    for names in [vec![], vec![""], vec!["book", "book"]] {
-        let run = run(folder.program().args(names), b"open 4 1\n", 4096);
-        assert_eq!(run.output, "usage: ringbook FILE\n");
+    for length in [1025, 1026, 2048, 4096, 5000, 100_000] {
+        let input = spaced(length) + "count\n";
+        assert_eq!(
+            folder.answer(&input),
+            format!("{TOO_LONG}live 0 grants 0\n")
+        );
+        assert_eq!(
+            folder.answer(&format!("grant 0 1 0 0{}", " ".repeat(length))),
+            TOO_LONG
+        );
     }
-}
-
-#[test]
-fn a_new_file_that_cannot_be_made() {
-    let folder = Folder::new("unwritten");
-    let unwritten = "error the book could not be written\n";
-    let run = run(folder.program().arg("nowhere/book"), b"open 4 1\n", 4096);
-    assert_eq!(run.output, format!("opened 4 1\n{unwritten}"));
-    let form = Some(encode(&many(70, 70)));
-    folder.put("book", &form);
-    fs::create_dir(folder.file("book.new")).unwrap();
-    let answer = folder.answer("remove 7\n");
-    assert_eq!(answer, format!("removed 7\n{unwritten}"));
-    assert_eq!(folder.bytes("book"), form);
-}
-
-#[test]
-fn questions_leave_the_file_alone() {
-    let folder = Folder::new("questions");
-    folder.put("book", &Some(encode(&many(70, 90))));
-    let inode = || fs::metadata(folder.file("book")).unwrap().ino();
-    let before = inode();
-    folder.answer("show 1\nholder 0 0\ncount\nremove 80\ngrant 0 0 0 0\nopen 3 1\nnonsense\n");
-    assert_eq!(inode(), before);
-    folder.answer("remove 1\n");
-    assert_ne!(inode(), before);
+    let both = "remove 1".repeat(200) + "\ngrant 0 1 0 0\nlist";
+    assert_eq!(
+        folder.answer(&both),
+        format!("{TOO_LONG}granted 1\n{UNFINISHED}")
+    );
 }
 
 #[test]
 fn random_sessions_agree() {
     let mut random = Random::new(10);
     let (mut sessions, mut commands) = (0, 0);
-    for _ in 0..10 {
+    for _ in 0..5 {
         let folder = Folder::new("random");
-        let mut naive = NaiveSession::default();
-        for _ in 0..12 {
+        let mut naive = NaiveDesk::default();
+        for _ in 0..6 {
             let (mut input, mut want) = (String::new(), String::new());
-            for _ in 0..random.below(400) {
+            for _ in 0..random.below(100) {
                 let line = draw_line(&mut random, &naive);
                 want += &naive.answers(&line);
                 input += &line;
                 commands += 1;
             }
             assert_eq!(folder.answer(&input), want);
-            assert_eq!(folder.bytes("book"), naive.0.as_ref().map(encode));
+            assert_eq!(folder.bytes("book"), naive.bytes());
             assert_eq!(folder.bytes("book.new"), None);
             sessions += 1;
         }

@@ -6,11 +6,13 @@ use native.Mathlib.Omega.{arith}
 use lib.Dec.{eqb}
 use borrow.Author.Tests.{eqb-true, eqb-false}
 use Rattle.ring.proofs.Cases.{Apart, same, different, eqb-refl, test, tell-apart, impossible}
-use Rattle.blossom.proofs.Certificate.{Certificate, BetweenSearches}
-use Rattle.blossom.proofs.Labels.{Label, Free, Even, is-free, is-even, is-odd, is-frozen, label-case, free?, apart-by-even}
-use Rattle.blossom.proofs.Rows.{Symmetric, IsRow, fixed, paired, paired-is-row}
-use Rattle.blossom.proofs.Scanning.{Searching}
-use Rattle.blossom.proofs.State.{State}
+use Rattle.blossom.specs.Internal.Certificate.{Certificate, BetweenSearches}
+use Rattle.blossom.specs.Internal.Labels.{Label, Free, Even, free?}
+use Rattle.blossom.specs.Internal.Rows.{Symmetric, IsRow, fixed}
+use Rattle.blossom.specs.Internal.Searches.{Searching}
+use Rattle.blossom.specs.Internal.State.{State}
+use Rattle.blossom.proofs.LabelLaws.{is-free, is-even, is-odd, is-frozen, label-case, apart-by-even}
+use Rattle.blossom.proofs.RowLaws.{paired, paired-is-row}
 
 module _ (adj : ℕ → ℕ → Bool) (symmetric : Symmetric adj) (M : ℕ → ℕ) (label : ℕ → Label) (base : ℕ → ℕ) (r : ℕ)
     (O : BetweenSearches adj M label base r) (s : State) (done : ℕ → Bool) (S : Searching adj M label base r s done)

@@ -1,50 +1,17 @@
--- A blossom is shrunk: the odd vertices of its cycle, the set A, become even, and the classes along it become one, with the base k. The invariant stays.
+-- A blossom is shrunk: the odd vertices of its cycle, the set A, become even, and the classes along it become one, with the base k. The
+-- invariant stays.
 use Prim.Native.Nat.{ℕ, _<_, _≤_}
 use mathlib.Core.Path.{_≡_}
-use mathlib.Core.Bool.{Bool, true, false, cond, _&&_, _||_}
+use mathlib.Core.Bool.{Bool, true, false, _||_}
 use native.Mathlib.Omega.{arith}
 use lib.Dec.{eqb}
 use Rattle.ring.proofs.Cases.{yes, no, is, Apart, same, different, eqb-refl, test, tell-apart, two, three}
-use Rattle.blossom.proofs.Absorb.{absorbed-row, below-odd, same-above, absorbed-row-is-row}
-use Rattle.blossom.proofs.Labels.{Free, Even, Odd, Frozen, is-free, is-even, is-odd, is-frozen, label-case, even?, odd?, apart-by-even, apart-by-odd}
-use Rattle.blossom.proofs.Rows.{Symmetric, IsRow, fixed}
-use Rattle.blossom.proofs.State.{State, below, Invariant}
-
--- the vertices of the new class: those of A, the class of k, and the classes whose bases hang from A
-abbrev pub merged : (ℕ → ℕ) → State → (ℕ → Bool) → ℕ → ℕ → Bool
-merged M s A k z = A z || even? (s .label z) && (eqb (s .base z) k || A (M (s .base z)))
-
--- the state after the step: v in A gets the order o v, and c is the new clock
-abbrev pub shrunk : (ℕ → ℕ) → State → (ℕ → Bool) → (ℕ → ℕ) → (ℕ → ℕ) → ℕ → (ℕ → ℕ) → ℕ → State
-shrunk M s A p q k o c = record {
-  label = λ z. cond (A z) Even (s .label z);
-  base = λ z. cond (merged M s A k z) k (s .base z);
-  parent = s .parent;
-  order = λ z. cond (A z) (o z) (s .order z);
-  row = λ a z. cond (A a) (absorbed-row M s (p a) (q a) a z) (s .row a z);
-  clock = c;
-}
-
--- what makes A the odd vertices of a blossom with the base k: for v in A, p v and q v are the ends of the edge that closes the blossom, v is above
--- the first and not above the other; an odd vertex outside of A is above both ends, and above g and k, or above none of them
-pub record Blossom (adj : ℕ → ℕ → Bool) (M : ℕ → ℕ) (s : State) (A : ℕ → Bool) (p q : ℕ → ℕ) (g k : ℕ) : Type 0 where
-  pub cycle-odd : (v : ℕ) → A v ≡ true → s .label v ≡ Odd
-  pub p-even : (v : ℕ) → A v ≡ true → s .label (p v) ≡ Even
-  pub q-even : (v : ℕ) → A v ≡ true → s .label (q v) ≡ Even
-  pub p-in : (v : ℕ) → A v ≡ true → below M s v (p v) ≡ true
-  pub q-out : (v : ℕ) → A v ≡ true → below M s v (q v) ≡ false
-  pub edge : (v : ℕ) → A v ≡ true → adj (p v) (q v) ≡ true
-  pub p-level : (t v : ℕ) → s .label t ≡ Odd → A t ≡ false → A v ≡ true → below M s t (p v) ≡ below M s t g
-  pub q-level : (t v : ℕ) → s .label t ≡ Odd → A t ≡ false → A v ≡ true → below M s t (q v) ≡ below M s t g
-  pub k-base : three (s .label k) (s .base k) (A (M k)) ≡ three Even k false
-  pub k-level : (t : ℕ) → s .label t ≡ Odd → A t ≡ false → below M s t g ≡ below M s t k
-  pub k-order : (v : ℕ) → A v ≡ true → s .order k ≤ s .order (s .parent v)
-
--- the new orders: from the clock on, and below the new clock
-pub record NewOrders (s : State) (A : ℕ → Bool) (o : ℕ → ℕ) (c : ℕ) : Type 0 where
-  pub from-clock : (v : ℕ) → A v ≡ true → s .clock ≤ o v
-  pub to-clock : (v : ℕ) → A v ≡ true → o v < c
-  pub clock-grows : s .clock ≤ c
+use Rattle.blossom.specs.Internal.Labels.{Free, Even, Odd, Frozen, even?, odd?}
+use Rattle.blossom.specs.Internal.Rows.{Symmetric, IsRow, fixed}
+use Rattle.blossom.specs.Internal.State.{State, below, Invariant}
+use Rattle.blossom.proofs.Absorb.{below-odd, same-above, absorbed-row-is-row}
+use Rattle.blossom.proofs.LabelLaws.{is-free, is-even, is-odd, is-frozen, label-case, apart-by-even, apart-by-odd}
+use Rattle.blossom.proofs.Shrunk.{merged, shrunk, Blossom, NewOrders}
 
 module _ (adj : ℕ → ℕ → Bool) (symmetric : Symmetric adj) (M : ℕ → ℕ) (r : ℕ) (s : State) (I : Invariant adj M r s)
     (A : ℕ → Bool) (p q : ℕ → ℕ) (g k : ℕ) (G : Blossom adj M s A p q g k)
@@ -73,7 +40,9 @@ module _ (adj : ℕ → ℕ → Bool) (symmetric : Symmetric adj) (M : ℕ → �
   keeps t z ot nt = elim (is (A z)) [
     | yes e ↦
         let oz = G .cycle-odd z e in let pe = G .p-even z e in let qe = G .q-even z e in
-        let tz = tell-apart A z t e nt in let tp = apart-by-odd (s .label) t (p z) (cc) (cc) in let tq = apart-by-odd (s .label) t (q z) (cc) (cc) in
+        let tz = tell-apart A z t e nt in
+        let tp = apart-by-odd (s .label) t (p z) (cc) (cc) in
+        let tq = apart-by-odd (s .label) t (q z) (cc) (cc) in
         let lp = G .p-level t z ot nt e in let lq = G .q-level t z ot nt e in let lz = level t z ot nt e in
         elim (is (D z t)) [ yes f ↦ cc | no f ↦ cc ]
     | no e ↦ elim (label-case (s .label z)) [
@@ -87,7 +56,9 @@ module _ (adj : ℕ → ℕ → Bool) (symmetric : Symmetric adj) (M : ℕ → �
   -- the rows
   rows' : (a : ℕ) → after .label a ≡ Even → IsRow adj (after .row a) (fixed M r a)
   rows' a h z = elim (is (A a)) [
-    | yes e ↦ cc (absorbed-row-is-row adj symmetric M r s I (p a) (q a) a (G .p-even a e) (G .q-even a e) (G .cycle-odd a e) (G .p-in a e) (G .q-out a e) (G .edge a e) z)
+    | yes e ↦
+        cc (absorbed-row-is-row adj symmetric M r s I (p a) (q a) a (G .p-even a e) (G .q-even a e) (G .cycle-odd a e) (G .p-in a e)
+        (G .q-out a e) (G .edge a e) z)
     | no e ↦ cc (I .rows a (cc) z)
   ]
 
@@ -95,13 +66,16 @@ module _ (adj : ℕ → ℕ → Bool) (symmetric : Symmetric adj) (M : ℕ → �
   row-out : (a z : ℕ) → A a ≡ true → s .row (q a) z ≡ M z → even? (s .label z) ≡ false → odd? (s .label z) ≡ false → after .row a z ≡ M z
   row-out a z e h f g =
       let za = apart-by-odd (s .label) a z (cc (G .cycle-odd a e)) g in
-      let zp = apart-by-even (s .label) (p a) z (cc (G .p-even a e)) f in let zq = apart-by-even (s .label) (q a) z (cc (G .q-even a e)) f in
+      let zp = apart-by-even (s .label) (p a) z (cc (G .p-even a e)) f in
+      let zq = apart-by-even (s .label) (q a) z (cc (G .q-even a e)) f in
       elim (label-case (s .label z)) [ is-free i ↦ cc | is-frozen i ↦ cc | is-even i ↦ cc | is-odd i ↦ cc ]
 
   row-free' : (a z : ℕ) → after .label a ≡ Even → after .label z ≡ Free → after .row a z ≡ M z
   row-free' a z h f = elim (is (A z)) [
     | yes e ↦ cc
-    | no e ↦ elim (is (A a)) [ yes i ↦ row-out a z i (I .row-free (q a) z (G .q-even a i) (cc)) (cc) (cc) | no i ↦ cc (I .row-free a z (cc) (cc)) ]
+    | no e ↦
+        elim (is (A a))
+        [ yes i ↦ row-out a z i (I .row-free (q a) z (G .q-even a i) (cc)) (cc) (cc) | no i ↦ cc (I .row-free a z (cc) (cc)) ]
   ]
 
   row-frozen' : (a z : ℕ) → after .label a ≡ Even → after .label z ≡ Frozen → after .row a z ≡ M z
@@ -113,7 +87,8 @@ module _ (adj : ℕ → ℕ → Bool) (symmetric : Symmetric adj) (M : ℕ → �
     ]
   ]
 
-  row-below' : (t a z : ℕ) → after .label t ≡ Odd → after .label a ≡ Even → below M after t a ≡ true → below M after t z ≡ true → below M after t (after .row a z) ≡ true
+  row-below' : (t a z : ℕ) → after .label t ≡ Odd → after .label a ≡ Even → below M after t a ≡ true → below M after t z ≡ true
+      → below M after t (after .row a z) ≡ true
   row-below' t a z o h f i =
       let oo = odd-stays t o in let ka = keeps t a (cc) (cc) in let kz = keeps t z (cc) (cc) in
       let kr = keeps t (after .row a z) (cc) (cc) in
@@ -136,14 +111,17 @@ module _ (adj : ℕ → ℕ → Bool) (symmetric : Symmetric adj) (M : ℕ → �
             ]
       ]
 
-  row-away' : (t a z : ℕ) → after .label t ≡ Odd → after .label a ≡ Even → below M after t a ≡ false → below M after t z ≡ true → after .row a z ≡ M z
+  row-away' : (t a z : ℕ) → after .label t ≡ Odd → after .label a ≡ Even → below M after t a ≡ false → below M after t z ≡ true
+      → after .row a z ≡ M z
   row-away' t a z o h f i =
       let oo = odd-stays t o in let ka = keeps t a (cc) (cc) in let kz = keeps t z (cc) (cc) in
       elim (is (A a)) [
         | no e ↦ cc (I .row-away t a z (cc) (cc) (cc) (cc))
         | yes e ↦
             let lp = G .p-level t a (cc) (cc) e in let lq = G .q-level t a (cc) (cc) e in let la = level t a (cc) (cc) e in
-            let za = tell-apart (D t) z a (cc) (cc) in let zp = tell-apart (D t) z (p a) (cc) (cc) in let zq = tell-apart (D t) z (q a) (cc) (cc) in
+            let za = tell-apart (D t) z a (cc) (cc) in
+            let zp = tell-apart (D t) z (p a) (cc) (cc) in
+            let zq = tell-apart (D t) z (q a) (cc) (cc) in
             elim (is (D a z)) [
               | yes n ↦ cc (I .row-away t (p a) z (cc) (G .p-even a e) (cc) (cc))
               | no n ↦ cc (I .row-away t (q a) z (cc) (G .q-even a e) (cc) (cc))
@@ -183,7 +161,10 @@ module _ (adj : ℕ → ℕ → Bool) (symmetric : Symmetric adj) (M : ℕ → �
       → three (after .label (M z)) (after .base (M z)) (eqb (M z) z) ≡ three Even (after .base z) false
   inner-mate' z h n = elim (class z h) [
     | in-cycle a b e ↦
-        let m = I .mate-odd z b in let t = I .odd-mate z b in let o = not-in-cycle (M z) (cc) in let d = apart-by-even (s .label) (M z) z (cc) (cc) in
+        let m = I .mate-odd z b in
+        let t = I .odd-mate z b in
+        let o = not-in-cycle (M z) (cc) in
+        let d = apart-by-even (s .label) (M z) z (cc) (cc) in
         elim (test (s .base (M z)) k) [ same f i ↦ cc (I .mates z) | different f ↦ cc (I .mates z) ]
     | at-base a b e f ↦ let i = I .inner-mate z b (cc) in let o = not-in-cycle (M z) (cc) in cc
     | on-cycle a b e f i ↦ elim (test (s .base z) z) [
@@ -246,16 +227,22 @@ module _ (adj : ℕ → ℕ → Bool) (symmetric : Symmetric adj) (M : ℕ → �
       let kb = G .k-base in let ak = not-in-cycle k (cc) in
       elim (class z h) [
         | in-cycle a b e ↦
-            let u : after .order (after .base z) ≡ s .order k = cc in let v : after .order z ≡ o z = cc in omega (arith, I .order-clock k (cc), N .from-clock z a)
+            let u : after .order (after .base z) ≡ s .order k = cc in
+            let v : after .order z ≡ o z = cc in
+            omega (arith, I .order-clock k (cc), N .from-clock z a)
         | at-base a b e f ↦
-            let u : after .order (after .base z) ≡ s .order (s .base z) = cc in let v : after .order z ≡ s .order z = cc in omega (arith, I .order-base z b)
+            let u : after .order (after .base z) ≡ s .order (s .base z) = cc in
+            let v : after .order z ≡ s .order z = cc in
+            omega (arith, I .order-base z b)
         | on-cycle a b e f i ↦
             let u : after .order (after .base z) ≡ s .order k = cc in let v : after .order z ≡ s .order z = cc in
             let w : ℕ = M (s .base z) in let m : M w ≡ s .base z = cc (I .mates (s .base z)) in
             omega (arith, I .order-base z b, G .k-order w f, rw m at (I .parent-order w (G .cycle-odd w f)))
         | elsewhere a b e f i ↦
             let n = not-in-cycle (s .base z) (cc (I .base-even z b)) in
-            let u : after .order (after .base z) ≡ s .order (s .base z) = cc in let v : after .order z ≡ s .order z = cc in omega (arith, I .order-base z b)
+            let u : after .order (after .base z) ≡ s .order (s .base z) = cc in
+            let v : after .order z ≡ s .order z = cc in
+            omega (arith, I .order-base z b)
       ]
 
   order-clock' : (z : ℕ) → after .label z ≡ Even → after .order z < after .clock
@@ -266,7 +253,9 @@ module _ (adj : ℕ → ℕ → Bool) (symmetric : Symmetric adj) (M : ℕ → �
 
   parent-order' : (t : ℕ) → after .label t ≡ Odd → after .order (after .parent t) < after .order (M t)
   parent-order' t o =
-      let oo = odd-stays t o in let n = not-in-cycle (M t) (cc (I .mate-odd t (cc))) in let l = not-in-cycle (s .parent t) (cc (I .parent-even t (cc))) in
+      let oo = odd-stays t o in
+      let n = not-in-cycle (M t) (cc (I .mate-odd t (cc))) in
+      let l = not-in-cycle (s .parent t) (cc (I .parent-even t (cc))) in
       let u : after .order (after .parent t) ≡ s .order (s .parent t) = cc in let v : after .order (M t) ≡ s .order (M t) = cc in
       omega (arith, I .parent-order t (cc))
 

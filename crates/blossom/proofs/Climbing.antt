@@ -1,15 +1,16 @@
--- A walk up the tree from x against y: from base to base, over the mates of these, until one of them is above y too. It marks the odd vertices of the
--- cycle that are above x, and ends at the base of the blossom.
+-- A walk up the tree from x against y: from base to base, over the mates of these, until one of them is above y too. It marks the odd
+-- vertices of the cycle that are above x, and ends at the base of the blossom.
 use Prim.Native.Nat.{ℕ}
 use mathlib.Core.Path.{_≡_, sym}
-use mathlib.Core.Bool.{Bool, true, false, not, _&&_, _||_}
+use mathlib.Core.Bool.{Bool, true, false, not, xor, _&&_, _||_}
 use lib.Dec.{eqb}
 use Rattle.ring.proofs.Cases.{yes, no, is, same, different, eqb-refl, test, two, impossible}
+use Rattle.blossom.specs.Internal.Labels.{Even, Odd, odd?}
+use Rattle.blossom.specs.Internal.Rows.{Symmetric}
+use Rattle.blossom.specs.Internal.State.{State, below, Invariant}
 use Rattle.blossom.proofs.Absorb.{hangs}
 use Rattle.blossom.proofs.Cycle.{cycle, Walk}
-use Rattle.blossom.proofs.Labels.{Even, Odd, is-free, is-even, is-odd, is-frozen, label-case, odd?}
-use Rattle.blossom.proofs.Rows.{Symmetric}
-use Rattle.blossom.proofs.State.{State, below, Invariant}
+use Rattle.blossom.proofs.LabelLaws.{is-free, is-even, is-odd, is-frozen, label-case}
 use Rattle.blossom.proofs.Tree.{transitive}
 
 -- the walk has come to the base b: what is above x is marked, or above b
@@ -53,7 +54,8 @@ module _ (adj : ℕ → ℕ → Bool) (symmetric : Symmetric adj) (M : ℕ → �
     climb-next d n = let ob = climb-odd d in let ep = I .parent-even (M b) ob in record {
       is-base = I .base-even (s .parent (M b)) ep;
       marked-is = λ t ot. let h = hanging t ot ob in let c = C .marked-is t ot in let p = I .below-base t (s .parent (M b)) ot ep in
-          elim (is (eqb t (M b))) [ yes e ↦ elim (is (marked t)) [ yes f ↦ cc | no f ↦ cc ] | no e ↦ elim (is (marked t)) [ yes f ↦ cc | no f ↦ cc ] ];
+          elim (is (eqb t (M b)))
+          [ yes e ↦ elim (is (marked t)) [ yes f ↦ cc | no f ↦ cc ] | no e ↦ elim (is (marked t)) [ yes f ↦ cc | no f ↦ cc ] ];
       marked-odd = λ t e. elim (test t (M b)) [ same f g ↦ cc | different f ↦ C .marked-odd t (cc) ];
       not-above = λ t e. elim (test t (M b)) [ same f g ↦ cc | different f ↦ C .not-above t (cc) ];
     }
@@ -82,6 +84,7 @@ module _ (adj : ℕ → ℕ → Bool) (symmetric : Symmetric adj) (M : ℕ → �
       ]
 
       pub climb-ends : cycle M s x y (M b) ≡ false
+      unfolding xor
       climb-ends = let w = C .is-base in elim (test (M b) b) [
         | same e f ↦ cc
         | different e ↦
@@ -90,6 +93,7 @@ module _ (adj : ℕ → ℕ → Bool) (symmetric : Symmetric adj) (M : ℕ → �
       ]
 
       pub climb-walk : Walk M s (cycle M s x y) x b
+      unfolding xor
       climb-walk = record {
         is-base = C .is-base;
         level = λ t ot n. let c = C .marked-is t ot in let k = climb-marks t in elim (is (marked t)) [

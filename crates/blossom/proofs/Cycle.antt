@@ -1,32 +1,30 @@
--- An edge between two classes closes a blossom: the odd vertices of its cycle are those above one end and not above the other, and a walk up the tree
--- from one end finds its base.
+-- An edge between two classes closes a blossom: the odd vertices of its cycle are those above one end and not above the other, and a walk
+-- up the tree from one end finds its base.
 use Prim.Native.Nat.{ℕ, zero, suc, _<_, _≤_}
 use mathlib.Core.Path.{_≡_}
-use mathlib.Core.Bool.{Bool, true, false, not, cond, _&&_, _||_}
+use mathlib.Core.Bool.{Bool, true, false, xor, cond, _&&_, _||_}
 use native.Mathlib.Omega.{arith}
 use lib.Dec.{eqb}
 use borrow.Author.Tests.{eqb-true}
 use Rattle.ring.proofs.Cases.{yes, no, is, same, different, eqb-refl, test, tell-apart, keep-apart, two, impossible}
+use Rattle.blossom.specs.Internal.Labels.{Even, Odd, odd?}
+use Rattle.blossom.specs.Internal.Rows.{Symmetric}
+use Rattle.blossom.specs.Internal.State.{State, below, Invariant}
 use Rattle.blossom.proofs.Absorb.{hangs, below-odd, same-above}
-use Rattle.blossom.proofs.Blossom.{merged, Blossom}
-use Rattle.blossom.proofs.Labels.{Even, Odd, is-free, is-even, is-odd, is-frozen, label-case, odd?}
-use Rattle.blossom.proofs.Rows.{Symmetric}
-use Rattle.blossom.proofs.State.{State, below, Invariant}
+use Rattle.blossom.proofs.Shrunk.{merged, Blossom}
+use Rattle.blossom.proofs.LabelLaws.{is-free, is-even, is-odd, is-frozen, label-case}
 use Rattle.blossom.proofs.Tree.{acyclic, transitive}
-
-abbrev pub differ : Bool → Bool → Bool
-differ true b = not b
-differ false b = b
 
 -- the odd vertices of the cycle that the edge from x to y closes
 abbrev pub cycle : (ℕ → ℕ) → State → ℕ → ℕ → ℕ → Bool
-cycle M s x y v = odd? (s .label v) && differ (below M s v x) (below M s v y)
+cycle M s x y v = odd? (s .label v) && xor (below M s v x) (below M s v y)
 
 pub cycle-odd : (M : ℕ → ℕ) (s : State) (x y v : ℕ) → cycle M s x y v ≡ true → s .label v ≡ Odd
 cycle-odd M s x y v a = elim (label-case (s .label v)) [ is-free e ↦ cc | is-even e ↦ cc | is-odd e ↦ e | is-frozen e ↦ cc ]
 
 -- it has no direction
 pub cycle-symmetric : (M : ℕ → ℕ) (s : State) (x y v : ℕ) → cycle M s x y v ≡ cycle M s y x v
+unfolding xor
 cycle-symmetric M s x y v = elim (is (below M s v x)) [
   | yes e ↦ elim (is (below M s v y)) [ yes f ↦ cc | no f ↦ cc ]
   | no e ↦ elim (is (below M s v y)) [ yes f ↦ cc | no f ↦ cc ]
@@ -48,7 +46,8 @@ module _ (adj : ℕ → ℕ → Bool) (symmetric : Symmetric adj) (M : ℕ → �
       omega (arith, I .order-base (s .parent (M b)) (I .parent-even (M b) ob), rw m at (I .parent-order (M b) ob))
 
   -- where the walk ends, for any set A of odd vertices
-  module _ (A : ℕ → Bool) (k : ℕ) (ek : s .label k ≡ Even) (bk : s .base k ≡ k) (nk : A (M k) ≡ false) (ao : (v : ℕ) → A v ≡ true → s .label v ≡ Odd) where
+  module _ (A : ℕ → Bool) (k : ℕ) (ek : s .label k ≡ Even) (bk : s .base k ≡ k) (nk : A (M k) ≡ false)
+      (ao : (v : ℕ) → A v ≡ true → s .label v ≡ Odd) where
     -- k hangs from an odd vertex that stays odd, or is the root
     data BaseHangs : Type 0 where
       from-root : M k ≡ k → k ≡ r → BaseHangs
@@ -88,10 +87,16 @@ module _ (adj : ℕ → ℕ → Bool) (symmetric : Symmetric adj) (M : ℕ → �
                   | from-odd j u ↦
                       let q : ℕ = M k in
                       let qv = keep-apart M (λ z. cc (I .mates z)) b k d in
-                      let vq : D v (s .parent q) ≡ true = cc (h v ov i, I .below-parent v k ov ek (cc), I .below-parent v w ov ew ov, eqb-refl v) in
+                      let vq : D v (s .parent q) ≡ true = cc (
+                        h v ov i,
+                        I .below-parent v k ov ek (cc),
+                        I .below-parent v w ov ew ov,
+                        eqb-refl v,
+                      ) in
                       let qp : D q (s .parent v) ≡ true = cc (h q j nk, I .below-parent q w j ew ov) in
                       cc (
-                        transitive (s .label) (s .parent) (s .order) D (hangs adj symmetric M r s I) (s .parent q) (I .parent-even q j) q v j ov qp vq,
+                        transitive (s .label) (s .parent) (s .order) D (hangs adj symmetric M r s I) (s .parent q) (I .parent-even q j) q v
+                            j ov qp vq,
                         acyclic (s .label) (s .parent) (s .order) D (hangs adj symmetric M r s I) q j (I .parent-even q j),
                       )
                 ]
@@ -101,7 +106,8 @@ module _ (adj : ℕ → ℕ → Bool) (symmetric : Symmetric adj) (M : ℕ → �
         ]
 
     -- of these, k came first
-    first : (n w : ℕ) → s .order w < n → s .label w ≡ Even → ((t : ℕ) → s .label t ≡ Odd → A t ≡ false → D t w ≡ D t k) → s .order k ≤ s .order w
+    first : (n w : ℕ) → s .order w < n → s .label w ≡ Even → ((t : ℕ) → s .label t ≡ Odd → A t ≡ false → D t w ≡ D t k)
+        → s .order k ≤ s .order w
     first zero w l ew h = omega arith
     first (suc n) w l ew h =
         let b : ℕ = s .base w in let ob = I .order-base w ew in let me = meets w ew h in
@@ -110,7 +116,8 @@ module _ (adj : ℕ → ℕ → Bool) (symmetric : Symmetric adj) (M : ℕ → �
           | different d ↦
               let v : ℕ = M b in let av : A v ≡ true = cc in let ov = ao v av in let mv : M v ≡ b = cc (I .mates b) in
               let pv = rw mv at (I .parent-order v ov) in
-              let u = first n (s .parent v) (omega arith) (I .parent-even v ov) (λ t ot nt. cc (h t ot nt, I .below-parent t w ot ew ov, tell-apart A v t av nt .right)) in
+              let u = first n (s .parent v) (omega arith) (I .parent-even v ov)
+              (λ t ot nt. cc (h t ot nt, I .below-parent t w ot ew ov, tell-apart A v t av nt .right)) in
               omega arith
         ]
 
@@ -129,6 +136,7 @@ module _ (adj : ℕ → ℕ → Bool) (symmetric : Symmetric adj) (M : ℕ → �
       above-y : s .label v ≡ Odd → D v x ≡ false → D v y ≡ true → In v
 
     in-cycle : (v : ℕ) → A v ≡ true → In v
+    unfolding xor
     in-cycle v a = elim (label-case (s .label v)) [
       | is-free e ↦ impossible (cc)
       | is-even e ↦ impossible (cc)
@@ -140,6 +148,7 @@ module _ (adj : ℕ → ℕ → Bool) (symmetric : Symmetric adj) (M : ℕ → �
     ]
 
     off-cycle : (t : ℕ) → s .label t ≡ Odd → A t ≡ false → D t x ≡ D t y
+    unfolding xor
     off-cycle t o a = elim (is (D t x)) [
       | yes f ↦ elim (is (D t y)) [ yes g ↦ cc | no g ↦ cc ]
       | no f ↦ elim (is (D t y)) [ yes g ↦ cc | no g ↦ cc ]
@@ -165,11 +174,15 @@ module _ (adj : ℕ → ℕ → Bool) (symmetric : Symmetric adj) (M : ℕ → �
       k-base = cc;
       k-level = W .level;
       k-order = λ v a. let pe = I .parent-even v (cycle-odd M s x y v a) in
-          first A k (cc) (cc) nk (cycle-odd M s x y) (suc (s .order (s .parent v))) (s .parent v) (omega arith) pe (λ t ot nt. cc (parent-level v t a ot nt, W .level t ot nt));
+          first A k (cc) (cc) nk (cycle-odd M s x y) (suc (s .order (s .parent v))) (s .parent v) (omega arith) pe
+          (λ t ot nt. cc (parent-level v t a ot nt, W .level t ot nt));
     }
 
     -- both ends of the edge come into the new class
     pub joins : (k : ℕ) → Walk M s A x k → A (M k) ≡ false → two (merged M s A k x) (merged M s A k y) ≡ two true true
     joins k W nk =
         let wb = W .is-base in
-        cc (meets A k (cc) (cc) nk (cycle-odd M s x y) x ex (W .level), meets A k (cc) (cc) nk (cycle-odd M s x y) y ey (λ t ot nt. cc (off-cycle t ot nt, W .level t ot nt)))
+        cc (
+          meets A k (cc) (cc) nk (cycle-odd M s x y) x ex (W .level),
+          meets A k (cc) (cc) nk (cycle-odd M s x y) y ey (λ t ot nt. cc (off-cycle t ot nt, W .level t ot nt)),
+        )

@@ -5,10 +5,12 @@ use mathlib.Core.Bool.{Bool, true, false, not, cond, _&&_, _||_}
 use native.Mathlib.Omega.{arith}
 use lib.Dec.{eqb, ltb}
 use Rattle.ring.proofs.Cases.{yes, no, is, same, different, eqb-refl, test, two}
-use Rattle.ring.proofs.Counting.{sum, bit, count, bit-le-or, sum-ext, sum-le, sum-add, sum-at, sum-by-class, sum-involution, even-without-fixed-points}
-use Rattle.blossom.proofs.Certificate.{Certificate}
-use Rattle.blossom.proofs.Labels.{Label, Free, Even, is-free, is-even, is-odd, is-frozen, label-case, even?, odd?}
-use Rattle.blossom.proofs.Rows.{Mates}
+use Rattle.ring.proofs.Counting.{sum, bit, count, bit-le-or, sum-ext, sum-le}
+use Rattle.ring.proofs.Counting.{sum-add, sum-at, sum-by-class, sum-involution, even-without-fixed-points}
+use Rattle.blossom.specs.Internal.Certificate.{Certificate}
+use Rattle.blossom.specs.Internal.Labels.{Label, Free, Even, even?, odd?}
+use Rattle.blossom.specs.Internal.Rows.{Mates}
+use Rattle.blossom.proofs.LabelLaws.{is-free, is-even, is-odd, is-frozen, label-case}
 
 -- M has the certificate, and leaves no free vertex exposed; N is any other matching
 module _ (adj : ℕ → ℕ → Bool) (m : ℕ) (M : ℕ → ℕ) (label : ℕ → Label) (base : ℕ → ℕ)

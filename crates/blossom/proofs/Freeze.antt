@@ -5,11 +5,12 @@ use mathlib.Core.Bool.{Bool, true, false, not, cond}
 use native.Mathlib.Omega.{arith}
 use borrow.Author.Tests.{eqb-false}
 use Rattle.ring.proofs.Cases.{same, different, test}
-use Rattle.blossom.proofs.Certificate.{Certificate, BetweenSearches}
-use Rattle.blossom.proofs.Labels.{Label, Free, Even, Odd, Frozen, is-free, is-even, is-odd, is-frozen, label-case, even?, odd?, free?}
-use Rattle.blossom.proofs.Rows.{Symmetric}
-use Rattle.blossom.proofs.Scanning.{Searching}
-use Rattle.blossom.proofs.State.{State, Invariant}
+use Rattle.blossom.specs.Internal.Certificate.{Certificate, BetweenSearches}
+use Rattle.blossom.specs.Internal.Labels.{Label, Free, Even, Odd, Frozen, even?, odd?, free?}
+use Rattle.blossom.specs.Internal.Rows.{Symmetric}
+use Rattle.blossom.specs.Internal.Searches.{Searching}
+use Rattle.blossom.specs.Internal.State.{State, Invariant}
+use Rattle.blossom.proofs.LabelLaws.{is-free, is-even, is-odd, is-frozen, label-case}
 
 -- the labels of the frozen vertices afterwards
 abbrev pub frozen-labels : State → (ℕ → Label) → ℕ → Label

@@ -5,9 +5,12 @@ use mathlib.Core.Bool.{Bool, true, false, cond, _||_}
 use native.Mathlib.Omega.{arith}
 use lib.Dec.{eqb}
 use Rattle.ring.proofs.Cases.{Apart, same, different, eqb-refl, test, apart-eqb, keep-apart, two, three, impossible}
-use Rattle.blossom.proofs.Labels.{Free, Even, Odd, Frozen, is-free, is-even, is-odd, is-frozen, label-case, apart-by-even, apart-by-odd}
-use Rattle.blossom.proofs.Rows.{Symmetric, IsRow, fixed, row-keep-apart, grown-row, grown-row-is-row}
-use Rattle.blossom.proofs.State.{State, below, Invariant, exposed-is-root}
+use Rattle.blossom.specs.Internal.Labels.{Free, Even, Odd, Frozen}
+use Rattle.blossom.specs.Internal.Rows.{Symmetric, IsRow, fixed}
+use Rattle.blossom.specs.Internal.State.{State, below, Invariant}
+use Rattle.blossom.proofs.LabelLaws.{is-free, is-even, is-odd, is-frozen, label-case, apart-by-even, apart-by-odd}
+use Rattle.blossom.proofs.RowLaws.{row-keep-apart, grown-row, grown-row-is-row}
+use Rattle.blossom.proofs.StateLaws.{exposed-is-root}
 
 -- the state after the step
 abbrev pub grown : (ℕ → ℕ) → State → ℕ → ℕ → ℕ → State
@@ -44,7 +47,8 @@ module _ (adj : ℕ → ℕ → Bool) (symmetric : Symmetric adj) (M : ℕ → �
     ]
 
     -- an even row keeps y and c away from the others
-    row-apart : (a : ℕ) → s .label a ≡ Even → (z : ℕ) → Apart z c → Apart z y → two (eqb (s .row a z) c) (eqb (s .row a z) y) ≡ two false false
+    row-apart : (a : ℕ) → s .label a ≡ Even → (z : ℕ) → Apart z c → Apart z y
+        → two (eqb (s .row a z) c) (eqb (s .row a z) y) ≡ two false false
     row-apart a e z f g = cc (
       row-keep-apart adj (s .row a) (fixed M r a) (I .rows a e) z y g .left,
       row-keep-apart adj (s .row a) (fixed M r a) (I .rows a e) z c f .left,
@@ -54,7 +58,9 @@ module _ (adj : ℕ → ℕ → Bool) (symmetric : Symmetric adj) (M : ℕ → �
 
     below-odd : (t : ℕ) → s .label t ≡ Odd → (z : ℕ) → below M after t z ≡ cond (eqb z c || eqb z y) (below M s t x) (below M s t z)
     below-odd t o z =
-        let tx = apart-by-odd (s .label) t x (cc) (cc) in let ty = apart-by-odd (s .label) t y (cc) (cc) in let tc = apart-by-odd (s .label) t c (cc) (cc) in
+        let tx = apart-by-odd (s .label) t x (cc) (cc) in
+        let ty = apart-by-odd (s .label) t y (cc) (cc) in
+        let tc = apart-by-odd (s .label) t c (cc) (cc) in
         elim (at z) [
           | at-c e f ↦ cc
           | at-y e d f ↦ cc
@@ -82,7 +88,9 @@ module _ (adj : ℕ → ℕ → Bool) (symmetric : Symmetric adj) (M : ℕ → �
 
     rows' : (a : ℕ) → after .label a ≡ Even → IsRow adj (after .row a) (fixed M r a)
     rows' a h z = elim (at a) [
-      | at-c e f ↦ cc (grown-row-is-row adj symmetric M (s .row x) r x y c (I .rows x ex) (cc (I .row-free x y ex fy)) xy xc yc axy (exposed-is-root adj M r s I x ex) (cc) z)
+      | at-c e f ↦
+          cc (grown-row-is-row adj symmetric M (s .row x) r x y c (I .rows x ex) (cc (I .row-free x y ex fy)) xy xc yc axy
+          (exposed-is-root adj M r s I x ex) (cc) z)
       | at-y e d f ↦ cc
       | at-other b d e f ↦ cc (I .rows a (cc) z)
     ]
@@ -109,7 +117,8 @@ module _ (adj : ℕ → ℕ → Bool) (symmetric : Symmetric adj) (M : ℕ → �
       ]
     ]
 
-    row-below' : (t a z : ℕ) → after .label t ≡ Odd → after .label a ≡ Even → below M after t a ≡ true → below M after t z ≡ true → below M after t (after .row a z) ≡ true
+    row-below' : (t a z : ℕ) → after .label t ≡ Odd → after .label a ≡ Even → below M after t a ≡ true → below M after t z ≡ true
+        → below M after t (after .row a z) ≡ true
     row-below' t a z o h p q = elim (odd-at t o) [
       | new i ↦ elim (at a) [
         | at-c g j ↦ elim (at z) [ at-c k l ↦ cc | at-y k l n ↦ cc (below-y z) | at-other k l n u ↦ cc (below-y z) ]
@@ -121,7 +130,8 @@ module _ (adj : ℕ → ℕ → Bool) (symmetric : Symmetric adj) (M : ℕ → �
         | at-c g j ↦ elim (at z) [
           | at-c k l ↦ cc
           | at-y k l n ↦ cc
-          | at-other k l n u ↦ elim (test z x) [ same v w ↦ cc | different v ↦ cc (I .row-below t x z i ex (cc) (cc), row-apart x ex z k l) ]
+          | at-other k l n u ↦
+              elim (test z x) [ same v w ↦ cc | different v ↦ cc (I .row-below t x z i ex (cc) (cc), row-apart x ex z k l) ]
         ]
         | at-other g j e f ↦ elim (at z) [
           | at-c k l ↦ cc (I .row-free a c (cc) fc)
@@ -131,12 +141,14 @@ module _ (adj : ℕ → ℕ → Bool) (symmetric : Symmetric adj) (M : ℕ → �
       ]
     ]
 
-    row-away' : (t a z : ℕ) → after .label t ≡ Odd → after .label a ≡ Even → below M after t a ≡ false → below M after t z ≡ true → after .row a z ≡ M z
+    row-away' : (t a z : ℕ) → after .label t ≡ Odd → after .label a ≡ Even → below M after t a ≡ false → below M after t z ≡ true
+        → after .row a z ≡ M z
     row-away' t a z o h p q = elim (odd-at t o) [
       | new i ↦ elim (at a) [
         | at-c g j ↦ cc (below-y a)
         | at-y g j k ↦ cc
-        | at-other g j k l ↦ elim (at z) [ at-c k l ↦ cc (I .row-free a c (cc) fc) | at-y k l n ↦ cc (below-y z) | at-other k l n u ↦ cc (below-y z) ]
+        | at-other g j k l ↦
+            elim (at z) [ at-c k l ↦ cc (I .row-free a c (cc) fc) | at-y k l n ↦ cc (below-y z) | at-other k l n u ↦ cc (below-y z) ]
       ]
       | before i ↦ let da = below-odd t i a in let dz = below-odd t i z in elim (at a) [
         | at-y g j k ↦ cc
@@ -154,10 +166,19 @@ module _ (adj : ℕ → ℕ → Bool) (symmetric : Symmetric adj) (M : ℕ → �
     ]
 
     base-apart : (z : ℕ) → s .label z ≡ Even → three (eqb (s .base z) c) (eqb (s .base z) y) (s .label (s .base z)) ≡ three false false Even
-    base-apart z e = cc (I .base-even z e, apart-by-even (s .label) (s .base z) c (cc (I .base-even z e)) (cc) .left, apart-by-even (s .label) (s .base z) y (cc (I .base-even z e)) (cc) .left)
+    base-apart z e =
+        cc (
+          I .base-even z e,
+          apart-by-even (s .label) (s .base z) c (cc (I .base-even z e)) (cc) .left,
+          apart-by-even (s .label) (s .base z) y (cc (I .base-even z e)) (cc) .left,
+        )
 
     parent-apart : (z : ℕ) → s .label z ≡ Odd → two (eqb (s .parent z) c) (eqb (s .parent z) y) ≡ two false false
-    parent-apart z o = cc (apart-by-even (s .label) (s .parent z) c (cc (I .parent-even z o)) (cc) .left, apart-by-even (s .label) (s .parent z) y (cc (I .parent-even z o)) (cc) .left)
+    parent-apart z o =
+        cc (
+          apart-by-even (s .label) (s .parent z) c (cc (I .parent-even z o)) (cc) .left,
+          apart-by-even (s .label) (s .parent z) y (cc (I .parent-even z o)) (cc) .left,
+        )
 
     below-base' : (t z : ℕ) → after .label t ≡ Odd → after .label z ≡ Even → below M after t z ≡ below M after t (after .base z)
     below-base' t z o h = elim (at z) [
@@ -187,7 +208,8 @@ module _ (adj : ℕ → ℕ → Bool) (symmetric : Symmetric adj) (M : ℕ → �
       | at-other a b d e ↦
           let bf = base-apart z (cc) in
           let q : ℕ = M (s .base z) in
-          let qc = mate-apart (s .base z) y c my (apart-eqb (s .base z) y (cc)) in let qy = mate-apart (s .base z) c y mc (apart-eqb (s .base z) c (cc)) in
+          let qc = mate-apart (s .base z) y c my (apart-eqb (s .base z) y (cc)) in
+          let qy = mate-apart (s .base z) c y mc (apart-eqb (s .base z) c (cc)) in
           let oq : s .label q ≡ Odd = cc in
           let pf = parent-apart q oq in
           elim (odd-at t o) [
@@ -217,7 +239,9 @@ module _ (adj : ℕ → ℕ → Bool) (symmetric : Symmetric adj) (M : ℕ → �
     parent-order' t o = elim (at t) [
       | at-c e f ↦ impossible (cc)
       | at-y e d f ↦
-          let u : after .order (after .parent t) ≡ s .order x = cc in let v : after .order (M t) ≡ s .clock = cc in omega (arith, I .order-clock x ex)
+          let u : after .order (after .parent t) ≡ s .order x = cc in
+          let v : after .order (M t) ≡ s .clock = cc in
+          omega (arith, I .order-clock x ex)
       | at-other a b d e ↦
           let pf = parent-apart t (cc) in
           let u : after .order (after .parent t) ≡ s .order (s .parent t) = cc in let v : after .order (M t) ≡ s .order (M t) = cc in
@@ -244,7 +268,8 @@ module _ (adj : ℕ → ℕ → Bool) (symmetric : Symmetric adj) (M : ℕ → �
       below-base = below-base';
       order-base = order-base';
       order-clock = order-clock';
-      parent-even = λ z o. elim (at z) [ at-c e f ↦ cc | at-y e d f ↦ cc | at-other a b d e ↦ cc (I .parent-even z (cc), parent-apart z (cc)) ];
+      parent-even = λ z o.
+          elim (at z) [ at-c e f ↦ cc | at-y e d f ↦ cc | at-other a b d e ↦ cc (I .parent-even z (cc), parent-apart z (cc)) ];
       parent-order = parent-order';
       below-root = below-root';
       below-parent = below-parent';
@@ -255,5 +280,6 @@ pub grows : (adj : ℕ → ℕ → Bool) (symmetric : Symmetric adj) (M : ℕ �
 grows adj symmetric M r s I x y ex fy n a =
     let fc = I .mate-free y fy in
     grows-at adj symmetric M r s I x y (M y) ex fy (apart-eqb y (M y) (apart-eqb (M y) y n .right)) a refl (cc (I .mates y)) fc
-    (apart-by-even (s .label) x y (cc) (cc)) (apart-by-even (s .label) x (M y) (cc) (cc)) (apart-by-even (s .label) r (M y) (cc (I .root)) (cc))
+    (apart-by-even (s .label) x y (cc) (cc)) (apart-by-even (s .label) x (M y) (cc) (cc))
+    (apart-by-even (s .label) r (M y) (cc (I .root)) (cc))
     (apart-by-even (s .label) r y (cc (I .root)) (cc)) (eqb-refl (M y)) (eqb-refl y)

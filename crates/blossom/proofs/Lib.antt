@@ -1,9 +1,10 @@
-pub mod Rows
-pub mod Labels
-pub mod State
+pub mod LabelLaws
+pub mod StateLaws
+pub mod RowLaws
 pub mod Grow
 pub mod Tree
 pub mod Absorb
+pub mod Shrunk
 pub mod Blossom
 pub mod Cycle
 pub mod Climbing
@@ -11,7 +12,6 @@ pub mod Kept
 pub mod Start
 pub mod Scan
 pub mod Scanning
-pub mod Certificate
 pub mod Search
 pub mod Augment
 pub mod Freeze

@@ -1,32 +1,22 @@
 -- The scanned vertices, and that what is scanned stays so in every later state of the search.
 use Prim.Native.Nat.{ℕ, _<_}
 use mathlib.Core.Path.{_≡_}
-use mathlib.Core.Bool.{Bool, true, false, _||_}
+use mathlib.Core.Bool.{Bool, true, _||_}
 use lib.Dec.{eqb}
 use Rattle.ring.proofs.Cases.{yes, no, is, same, different, test}
-use Rattle.blossom.proofs.Blossom.{shrunk}
+use Rattle.blossom.specs.Internal.Labels.{Free, Even, Odd}
+use Rattle.blossom.specs.Internal.Rows.{Symmetric}
+use Rattle.blossom.specs.Internal.Searches.{Scanned, PartlyScanned}
+use Rattle.blossom.specs.Internal.State.{State}
+use Rattle.blossom.proofs.Shrunk.{shrunk}
 use Rattle.blossom.proofs.Grow.{grown}
-use Rattle.blossom.proofs.Labels.{Free, Even, Odd, apart-by-even}
-use Rattle.blossom.proofs.Rows.{Symmetric}
-use Rattle.blossom.proofs.State.{State}
+use Rattle.blossom.proofs.LabelLaws.{apart-by-even}
 
 -- a later state: even vertices stay even, free ones were free before, and classes stay together
 pub record Extends (s later : State) : Type 0 where
   pub even-stays : (z : ℕ) → s .label z ≡ Even → later .label z ≡ Even
   pub free-before : (z : ℕ) → later .label z ≡ Free → s .label z ≡ Free
   pub joined : (a b : ℕ) → s .label a ≡ Even → s .label b ≡ Even → s .base a ≡ s .base b → later .base a ≡ later .base b
-
--- `done` are the scanned vertices: they have no free neighbour, and those that are adjacent have one base
-pub record Scanned (adj : ℕ → ℕ → Bool) (s : State) (done : ℕ → Bool) : Type 0 where
-  pub done-even : (x : ℕ) → done x ≡ true → s .label x ≡ Even
-  pub done-free : (x y : ℕ) → done x ≡ true → s .label y ≡ Free → adj x y ≡ false
-  pub done-base : (x y : ℕ) → done x ≡ true → done y ≡ true → adj x y ≡ true → s .base x ≡ s .base y
-
--- x is scanned against all vertices below n
-pub record PartlyScanned (adj : ℕ → ℕ → Bool) (s : State) (done : ℕ → Bool) (x n : ℕ) : Type 0 where
-  pub x-even : s .label x ≡ Even
-  pub x-free : (y : ℕ) → y < n → s .label y ≡ Free → adj x y ≡ false
-  pub x-base : (y : ℕ) → y < n → done y ≡ true → adj x y ≡ true → s .base x ≡ s .base y
 
 module _ (adj : ℕ → ℕ → Bool) (symmetric : Symmetric adj) (s : State) where
   module _ (later : State) (L : Extends s later) (done : ℕ → Bool) (S : Scanned adj s done) where
@@ -45,7 +35,8 @@ module _ (adj : ℕ → ℕ → Bool) (symmetric : Symmetric adj) (s : State) wh
     }
 
   -- x is scanned against all vertices
-  pub scan-whole : (done : ℕ → Bool) (m : ℕ) → ((a b : ℕ) → adj a b ≡ true → b < m) → Scanned adj s done → (x : ℕ) → PartlyScanned adj s done x m
+  pub scan-whole : (done : ℕ → Bool) (m : ℕ) → ((a b : ℕ) → adj a b ≡ true → b < m) → Scanned adj s done → (x : ℕ)
+      → PartlyScanned adj s done x m
       → Scanned adj s (λ z. eqb z x || done z)
   scan-whole done m bound S x C = record {
     done-even = λ z d. elim (test z x) [ same e f ↦ cc (C .x-even) | different e ↦ S .done-even z (cc) ];

@@ -1,39 +1,30 @@
--- The steps of a search: what holds before one, and what after it. M are the mates and r is the root; `label` and `base` are those of the vertices that
--- earlier searches froze.
+-- The steps of a search: what holds before one, and what after it. M are the mates and r is the root; `label` and `base` are those of the
+-- vertices that earlier searches froze.
 use Prim.Native.Nat.{ℕ, suc, _<_}
 use mathlib.Core.Path.{_≡_}
-use mathlib.Core.Bool.{Bool, true, false, not, cond, _||_}
+use mathlib.Core.Bool.{Bool, true, false, cond, _||_}
 use native.Mathlib.Omega.{arith}
 use lib.Dec.{eqb}
 use borrow.Author.Tests.{eqb-false}
 use Rattle.ring.proofs.Cases.{yes, no, is, same, different, eqb-refl, test}
-use Rattle.blossom.proofs.Blossom.{shrunk, NewOrders, shrinks}
+use Rattle.blossom.specs.Internal.Labels.{Label, Free, Even}
+use Rattle.blossom.specs.Internal.Rows.{Symmetric}
+use Rattle.blossom.specs.Internal.Searches.{PartlyScanned, Searching, Scanning}
+use Rattle.blossom.specs.Internal.State.{State, below}
+use Rattle.blossom.proofs.Blossom.{shrinks}
+use Rattle.blossom.proofs.Shrunk.{shrunk, NewOrders}
 use Rattle.blossom.proofs.Cycle.{cycle, Walk, closes, joins}
 use Rattle.blossom.proofs.Grow.{grown, grows}
-use Rattle.blossom.proofs.Labels.{Label, Free, Even, is-free, is-even, is-odd, is-frozen, label-case, free?, frozen?}
-use Rattle.blossom.proofs.Rows.{Symmetric}
-use Rattle.blossom.proofs.Scan.{Scanned, PartlyScanned, scanned-extends, partly-scanned-extends, scan-whole, grown-extends, shrunk-extends}
-use Rattle.blossom.proofs.State.{State, below, Invariant}
-
--- while no vertex is being scanned
-pub record Searching (adj : ℕ → ℕ → Bool) (M : ℕ → ℕ) (label : ℕ → Label) (base : ℕ → ℕ) (r : ℕ) (s : State) (done : ℕ → Bool) : Type 0 where
-  pub invariant : Invariant adj M r s
-  pub frozen-label : (z : ℕ) → frozen? (s .label z) ≡ not (free? (label z))
-  pub frozen-base : (z : ℕ) → free? (label z) ≡ false → s .base z ≡ base z
-  pub scanned : Scanned adj s done
-
--- while x is being scanned, and the vertices below n have been looked at
-pub record Scanning (adj : ℕ → ℕ → Bool) (M : ℕ → ℕ) (label : ℕ → Label) (base : ℕ → ℕ) (r : ℕ) (s : State) (done : ℕ → Bool) (x n : ℕ)
-    : Type 0 where
-  pub search : Searching adj M label base r s done
-  pub partly : PartlyScanned adj s done x n
+use Rattle.blossom.proofs.LabelLaws.{is-free, is-even, is-odd, is-frozen, label-case}
+use Rattle.blossom.proofs.Scan.{scanned-extends, partly-scanned-extends, scan-whole, grown-extends, shrunk-extends}
 
 pub scan-next : (adj : ℕ → ℕ → Bool) (s : State) (done : ℕ → Bool) (x n : ℕ) → PartlyScanned adj s done x n
     → (s .label n ≡ Free → adj x n ≡ false) → (done n ≡ true → adj x n ≡ true → s .base x ≡ s .base n) → PartlyScanned adj s done x (suc n)
 scan-next adj s done x n C f b = record {
   x-even = C .x-even;
   x-free = λ y l e. elim (test y n) [ same i j ↦ cc (f (cc)) | different i ↦ C .x-free y (omega (arith, eqb-false y n (i .left))) e ];
-  x-base = λ y l d a. elim (test y n) [ same i j ↦ cc (b (cc) (cc)) | different i ↦ C .x-base y (omega (arith, eqb-false y n (i .left))) d a ];
+  x-base = λ y l d a.
+      elim (test y n) [ same i j ↦ cc (b (cc) (cc)) | different i ↦ C .x-base y (omega (arith, eqb-false y n (i .left))) d a ];
 }
 
 -- a scan begins
@@ -45,7 +36,8 @@ scan-begin adj M label base r s done S x e = record {
 }
 
 -- the tree grows from the even x by n, which is free, and its mate
-pub search-grow : (adj : ℕ → ℕ → Bool) → Symmetric adj → (M : ℕ → ℕ) (label : ℕ → Label) (base : ℕ → ℕ) (r : ℕ) (s : State) (done : ℕ → Bool)
+pub search-grow : (adj : ℕ → ℕ → Bool) → Symmetric adj
+    → (M : ℕ → ℕ) (label : ℕ → Label) (base : ℕ → ℕ) (r : ℕ) (s : State) (done : ℕ → Bool)
     → Searching adj M label base r s done → (x n : ℕ) → s .label x ≡ Even → s .label n ≡ Free → eqb (M n) n ≡ false → adj x n ≡ true
     → Searching adj M label base r (grown M s x n (M n)) done
 search-grow adj symmetric M label base r s done S x n ex e d a =
@@ -64,7 +56,8 @@ search-grow adj symmetric M label base r s done S x n ex e d a =
       scanned = scanned-extends adj symmetric s after L done (S .scanned);
     }
 
-module _ (adj : ℕ → ℕ → Bool) (symmetric : Symmetric adj) (M : ℕ → ℕ) (label : ℕ → Label) (base : ℕ → ℕ) (r : ℕ) (s : State) (done : ℕ → Bool)
+module _ (adj : ℕ → ℕ → Bool) (symmetric : Symmetric adj) (M : ℕ → ℕ) (label : ℕ → Label) (base : ℕ → ℕ) (r : ℕ) (s : State)
+    (done : ℕ → Bool)
     (x n : ℕ) (N : Scanning adj M label base r s done x n) where
   -- a scan ends
   pub scan-end : ((a b : ℕ) → adj a b ≡ true → b < n) → Searching adj M label base r s (λ z. eqb z x || done z)
@@ -84,7 +77,8 @@ module _ (adj : ℕ → ℕ → Bool) (symmetric : Symmetric adj) (M : ℕ → �
   }
 
   -- the tree grows by n, which is free, and its mate
-  pub scan-grow : s .label n ≡ Free → eqb (M n) n ≡ false → adj x n ≡ true → Scanning adj M label base r (grown M s x n (M n)) done x (suc n)
+  pub scan-grow : s .label n ≡ Free → eqb (M n) n ≡ false → adj x n ≡ true
+      → Scanning adj M label base r (grown M s x n (M n)) done x (suc n)
   scan-grow e d a =
       let S = N .search in let I = S .invariant in let after : State = grown M s x n (M n) in
       let L = grown-extends adj symmetric s M x n (M n) e (I .mate-free n e) in
@@ -98,7 +92,8 @@ module _ (adj : ℕ → ℕ → Bool) (symmetric : Symmetric adj) (M : ℕ → �
   -- the edge from x to the even n closes a blossom, and k is where the walk up from x leaves its cycle
   pub scan-blossom : s .label n ≡ Even → adj x n ≡ true → (k : ℕ) → Walk M s (cycle M s x n) x k → cycle M s x n (M k) ≡ false
       → (o : ℕ → ℕ) (c : ℕ) → NewOrders s (cycle M s x n) o c
-      → Scanning adj M label base r (shrunk M s (cycle M s x n) (λ v. cond (below M s v x) x n) (λ v. cond (below M s v x) n x) k o c) done x (suc n)
+      → Scanning adj M label base r (shrunk M s (cycle M s x n) (λ v. cond (below M s v x) x n) (λ v. cond (below M s v x) n x) k o c) done
+      x (suc n)
   scan-blossom e a k W nk o c O =
       let S = N .search in let I = S .invariant in let ex = N .partly .x-even in
       let B = closes adj symmetric M r s I x n ex e a k W nk in

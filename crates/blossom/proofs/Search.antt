@@ -5,12 +5,13 @@ use mathlib.Core.Bool.{Bool, false, not}
 use native.Mathlib.Omega.{arith}
 use borrow.Author.Tests.{eqb-false}
 use Rattle.ring.proofs.Cases.{yes, no, is, same, different, test}
-use Rattle.blossom.proofs.Certificate.{BetweenSearches}
-use Rattle.blossom.proofs.Labels.{Label, Free, is-free, is-even, is-odd, is-frozen, label-case, free?}
-use Rattle.blossom.proofs.Rows.{Mates}
-use Rattle.blossom.proofs.Scanning.{Searching}
+use Rattle.blossom.specs.Internal.Certificate.{BetweenSearches}
+use Rattle.blossom.specs.Internal.Labels.{Label, Free, free?}
+use Rattle.blossom.specs.Internal.Rows.{Mates}
+use Rattle.blossom.specs.Internal.Searches.{Searching}
+use Rattle.blossom.specs.Internal.State.{State}
+use Rattle.blossom.proofs.LabelLaws.{is-free, is-even, is-odd, is-frozen, label-case}
 use Rattle.blossom.proofs.Start.{IsStart, starts}
-use Rattle.blossom.proofs.State.{State}
 
 pub between-start : (adj : ℕ → ℕ → Bool) (M base : ℕ → ℕ) → Mates adj M → BetweenSearches adj M (λ z. Free) base 0
 between-start adj M base w = record {
@@ -44,7 +45,8 @@ module _ (adj : ℕ → ℕ → Bool) (M : ℕ → ℕ) (label : ℕ → Label) 
     | is-free e ↦ cc (F .free-mate z e)
     | is-frozen e ↦ cc (F .none-frozen z)
     | is-odd e ↦ cc (F .odd-mate z e)
-    | is-even e ↦ elim (label-case (label (M z))) [ is-free f ↦ cc (F .free-mate (M z) f) | is-even f ↦ cc | is-odd f ↦ cc | is-frozen f ↦ cc ]
+    | is-even e ↦
+        elim (label-case (label (M z))) [ is-free f ↦ cc (F .free-mate (M z) f) | is-even f ↦ cc | is-odd f ↦ cc | is-frozen f ↦ cc ]
   ]
 
   -- a search begins at r

@@ -5,9 +5,9 @@ use mathlib.Core.Bool.{Bool, true, false, cond}
 use native.Mathlib.Omega.{arith}
 use lib.Dec.{eqb}
 use Rattle.ring.proofs.Cases.{yes, no, is, Apart, same, different, eqb-refl, test, keep-apart, impossible}
-use Rattle.blossom.proofs.Labels.{Free, Even, Odd, Frozen}
-use Rattle.blossom.proofs.Rows.{Mates}
-use Rattle.blossom.proofs.State.{State, Invariant}
+use Rattle.blossom.specs.Internal.Labels.{Free, Even, Odd, Frozen}
+use Rattle.blossom.specs.Internal.Rows.{Mates}
+use Rattle.blossom.specs.Internal.State.{State, Invariant}
 
 pub record IsStart (M : ℕ → ℕ) (frozen : ℕ → Bool) (r : ℕ) (s : State) : Type 0 where
   pub labels : (z : ℕ) → s .label z ≡ cond (eqb z r) Even (cond (frozen z) Frozen Free)
@@ -45,7 +45,9 @@ module _ (adj : ℕ → ℕ → Bool) (M : ℕ → ℕ) (mates : Mates adj M) (f
   starts = record {
     mates = mates;
     mate-free = λ z h. let l = S .labels (M z) in elim (at z) [ at-root e f g ↦ cc | at-frozen e f g i ↦ cc | at-free e f g i ↦ cc (mf z) ];
-    mate-frozen = λ z h. let l = S .labels (M z) in elim (at z) [ at-root e f g ↦ cc | at-frozen e f g i ↦ cc (mf z) | at-free e f g i ↦ cc ];
+    mate-frozen = λ z h.
+        let l = S .labels (M z) in
+        elim (at z) [ at-root e f g ↦ cc | at-frozen e f g i ↦ cc (mf z) | at-free e f g i ↦ cc ];
     mate-odd = λ z h. no-odd z h;
     mate-even = λ z h. cc (is-root z h);
     root = cc (S .labels r, eqb-refl r);

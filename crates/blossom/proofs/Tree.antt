@@ -1,13 +1,15 @@
--- The order in the tree, from the parents alone: `D t z` says that z is below the odd t. It is transitive and acyclic, and any two above one z are comparable.
+-- The order in the tree, from the parents alone: `D t z` says that z is below the odd t. It is transitive and acyclic, and any two above
+-- one z are comparable.
 use Prim.Native.Nat.{ℕ, zero, suc, _<_}
 use mathlib.Core.Path.{_≡_}
 use mathlib.Core.Bool.{Bool, true, false, _||_, true≢false}
 use native.Mathlib.Omega.{arith}
 use lib.Dec.{eqb}
 use Rattle.ring.proofs.Cases.{yes, no, is, same, different, test}
-use Rattle.blossom.proofs.Labels.{Label, Even, Odd}
+use Rattle.blossom.specs.Internal.Labels.{Label, Even, Odd}
 
--- where an even z hangs: from the root, with no odd vertex above it, or from the odd q, and then what is above it is q and what is above the parent of q
+-- where an even z hangs: from the root, with no odd vertex above it, or from the odd q, and then what is above it is q and what is above
+-- the parent of q
 pub data Hangs (label : ℕ → Label) (parent order : ℕ → ℕ) (D : ℕ → ℕ → Bool) (z : ℕ) : Type 0 where
   from-root : ((t : ℕ) → label t ≡ Odd → D t z ≡ false) → Hangs label parent order D z
   from-odd : (q : ℕ) → label q ≡ Odd → label (parent q) ≡ Even → order (parent q) < order z
@@ -47,7 +49,8 @@ module _ (label : ℕ → Label) (parent order : ℕ → ℕ) (D : ℕ → ℕ �
     ]
   ]
 
-  pub transitive : (z : ℕ) → label z ≡ Even → (t u : ℕ) → label t ≡ Odd → label u ≡ Odd → D t (parent u) ≡ true → D u z ≡ true → D t z ≡ true
+  pub transitive : (z : ℕ) → label z ≡ Even → (t u : ℕ) → label t ≡ Odd → label u ≡ Odd → D t (parent u) ≡ true → D u z ≡ true
+      → D t z ≡ true
   transitive z = transitive-upto (suc (order z)) z (omega arith)
 
   comparable-upto : (k z : ℕ) → order z < k → label z ≡ Even → (t u : ℕ) → label t ≡ Odd → label u ≡ Odd

@@ -1,1 +1,2 @@
--- The theory stands in proofs/.
+-- The definitions of the theory; its laws stand in proofs/.
+pub mod Internal

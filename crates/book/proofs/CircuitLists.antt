@@ -25,21 +25,25 @@ module _ (cs : List Circuit) (c : Circuit) where
   pub snoc-new : (i : ℕ) → i ≡ length cs → circuit (cs ++ (c ∷ [])) i ≡ c
   snoc-new i e = ap (circuit (cs ++ (c ∷ []))) e ∙ getD-append-seam cs c [] vacant
 
-  pub all-snoc : (P : Circuit → Type 0) → ((i : ℕ) → i < length cs → P (circuit cs i)) → P c → (i : ℕ) → i < length (cs ++ (c ∷ [])) → P (circuit (cs ++ (c ∷ [])) i)
+  pub all-snoc : (P : Circuit → Type 0) → ((i : ℕ) → i < length cs → P (circuit cs i)) → P c → (i : ℕ) → i < length (cs ++ (c ∷ []))
+      → P (circuit (cs ++ (c ∷ [])) i)
   all-snoc P old new i h =
       elim (compare i (length cs)) [
         | less l e ↦ subst P (sym (snoc-old i l)) (old i l)
         | not-less l e ↦ subst P (sym (snoc-new i (omega (arith, snoc-length)))) new
       ]
 
-  pub pairs-snoc : (P : Circuit → Circuit → Type 0) → ((i j : ℕ) → i < j → j < length cs → P (circuit cs i) (circuit cs j)) → ((i : ℕ) → i < length cs → P (circuit cs i) c)
+  pub pairs-snoc : (P : Circuit → Circuit → Type 0) → ((i j : ℕ) → i < j → j < length cs → P (circuit cs i) (circuit cs j))
+      → ((i : ℕ) → i < length cs → P (circuit cs i) c)
       → (i j : ℕ) → i < j → j < length (cs ++ (c ∷ [])) → P (circuit (cs ++ (c ∷ [])) i) (circuit (cs ++ (c ∷ [])) j)
   pairs-snoc P old new i j k h =
       elim (compare j (length cs)) [
-        | less l e ↦ subst (λ (x : Circuit). P x (circuit (cs ++ (c ∷ [])) j)) (sym (snoc-old i (omega arith))) (subst (P (circuit cs i)) (sym (snoc-old j l)) (old i j k l))
+        | less l e ↦ subst (λ (x : Circuit). P x (circuit (cs ++ (c ∷ [])) j)) (sym (snoc-old i (omega arith)))
+            (subst (P (circuit cs i)) (sym (snoc-old j l)) (old i j k l))
         | not-less l e ↦
             let m : i < length cs = omega (arith, snoc-length) in
-            subst (λ (x : Circuit). P x (circuit (cs ++ (c ∷ [])) j)) (sym (snoc-old i m)) (subst (P (circuit cs i)) (sym (snoc-new j (omega (arith, snoc-length)))) (new i m))
+            subst (λ (x : Circuit). P x (circuit (cs ++ (c ∷ [])) j)) (sym (snoc-old i m))
+            (subst (P (circuit cs i)) (sym (snoc-new j (omega (arith, snoc-length)))) (new i m))
       ]
 
 -- the place, before the removal of place `at`, of what stands at place k after it
@@ -88,9 +92,11 @@ module _ (cs : List Circuit) (at : ℕ) (l : at < length cs) where
           let q : length (take at cs) ≡ at = length-take-le at cs (omega arith) in
           let e : k ≡ length (take at cs) + (k - at) = omega arith in
           let e₂ : at + 1 + (k - at) ≡ k + 1 = omega arith in
-          ap (circuit (without at cs)) e ∙ getD-append-add (take at cs) (drop (at + 1) cs) (k - at) vacant ∙ getD-drop (at + 1) cs (k - at) vacant ∙ ap (circuit cs) e₂
+          ap (circuit (without at cs)) e ∙ getD-append-add (take at cs) (drop (at + 1) cs) (k - at) vacant
+          ∙ getD-drop (at + 1) cs (k - at) vacant ∙ ap (circuit cs) e₂
 
-  pub all-without : (P : Circuit → Type 0) → ((i : ℕ) → i < length cs → (i ≡ at → ⊥) → P (circuit cs i)) → (k : ℕ) → k < length (without at cs) → P (circuit (without at cs) k)
+  pub all-without : (P : Circuit → Type 0) → ((i : ℕ) → i < length cs → (i ≡ at → ⊥) → P (circuit cs i)) → (k : ℕ)
+      → k < length (without at cs) → P (circuit (without at cs) k)
   all-without P old k h =
       let m : k < length cs - 1 = omega (arith, length-without at cs l) in
       subst P (sym (without-at k m)) (old (skip at k) (skip-below at k (length cs) m) (skip-other at k))
@@ -100,7 +106,8 @@ module _ (cs : List Circuit) (at : ℕ) (l : at < length cs) where
   pairs-without P old i j k h =
       let m : j < length cs - 1 = omega (arith, length-without at cs l) in
       subst (λ (x : Circuit). P x (circuit (without at cs) j)) (sym (without-at i (omega arith)))
-      (subst (P (circuit cs (skip at i))) (sym (without-at j m)) (old (skip at i) (skip at j) (skip-rises at i j k) (skip-below at j (length cs) m)))
+      (subst (P (circuit cs (skip at i))) (sym (without-at j m))
+      (old (skip at i) (skip at j) (skip-rises at i j k) (skip-below at j (length cs) m)))
 
 -- some circuit of the list has a property exactly if there is one at a place
 pub record Place (cs : List Circuit) (p : Circuit → Bool) : Type 0 where

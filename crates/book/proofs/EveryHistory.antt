@@ -1,15 +1,17 @@
 -- Demand 2 of the book: what is so after every list of calls from open.
 use Prim.Native.Nat.{ℕ, zero, suc, _-_, _<_}
 use mathlib.Core.Path.{_≡_, refl, sym, _∙_, ap, subst}
-use mathlib.Core.Bool.{true}
+use mathlib.Core.Bool.{Bool, true, false, not}
 use mathlib.Core.List.{List, [], _∷_}
 use mathlib.Core.Logic.{inl, inr, _↔_}
 use native.Mathlib.Omega.{arith}
 use lib.Dec.{eqb}
 use lib.ListN.{length, getD}
 use borrow.Author.Tests.{eq-eqb, eqb-false}
+use Rattle.ring.specs.declared.refusals.Refusal.the-variants.{SerialNeverGiven, SerialRemoved}
 use Rattle.ring.specs.Matchings.{NoTwice}
 use Rattle.ring.specs.Ways.{uses}
+use Rattle.ring.proofs.Cases.{is, yes, no, impossible}
 use Rattle.book.specs.declared.circuits.Circuit.{Circuit}
 use Rattle.book.specs.declared.books.Book.{Book}
 use Rattle.book.specs.declared.orders.Lookup.{Lookup}
@@ -19,14 +21,16 @@ use Rattle.book.specs.declared.removals.RemoveAnswer.the-variants as rem
 use Rattle.book.specs.declared.holders.HolderAnswer.the-variants as holder
 use Rattle.book.specs.Circuits.{circuit, endsOf, holds}
 use Rattle.book.specs.Books.{liveOf, bookOf}
-use Rattle.book.specs.Orders.{lookup, missing, showFound, shown}
+use Rattle.book.specs.Orders.{lookup, missing, neverGiven, showFound, shown}
 use Rattle.book.specs.Removals.{withoutCircuit, removeFound, removed}
 use Rattle.book.specs.Holders.{heldBy}
-use Rattle.book.specs.History.{Event, RemoveAnswered, run, history, Live, given, downFrom, Holding, AfterHistory, EveryHistory}
+use Rattle.book.specs.History.{Event, RemoveAnswered, run, history, Live, wasGiven, wasRemoved, given, downFrom, Holding}
+use Rattle.book.specs.History.{AfterHistory, EveryHistory}
 use Rattle.book.proofs.Opening.{opened-book}
 use Rattle.book.proofs.ConflictLaws.{true-and}
 use Rattle.book.proofs.Lookups.{found-live, found-place}
 use Rattle.book.proofs.Holding.{ShownHolder, held-shown, shown-held, held-in-range, free, held, free-or-held}
+use Rattle.book.proofs.Serials.{never-given-told, shown-unknown, removed-as-shown}
 use Rattle.book.proofs.Histories.{Kept, kept-removed, kept-run}
 
 -- the held colours, from what is kept
@@ -39,8 +43,10 @@ module _ (n w : ℕ) (h : List Event) (b : Book) (k : Kept n w h b) (link colour
 
   pub held-by : (s : ℕ) → ((heldBy b link colour ≡ holder.Held s) ↔ Holding h link colour s)
   held-by s = (
-    λ e. let r : ShownHolder b link colour s = held-shown b (k .valid) link colour hl′ hc′ s e in record { order = r .order; live = k .shows s (r .order) .0 (r .is-shown); holding = r .holding },
-    λ g. shown-held b (k .valid) link colour hl′ hc′ s (record { order = g .order; is-shown = k .shows s (g .order) .1 (g .live); holding = g .holding }),
+    λ e. let r : ShownHolder b link colour s = held-shown b (k .valid) link colour hl′ hc′ s e in
+        record { order = r .order; live = k .shows s (r .order) .0 (r .is-shown); holding = r .holding },
+    λ g. shown-held b (k .valid) link colour hl′ hc′ s
+        (record { order = g .order; is-shown = k .shows s (g .order) .1 (g .live); holding = g .holding }),
   )
 
   pub held-free : ((heldBy b link colour ≡ holder.Free) ↔ ((s : ℕ) → Holding h link colour s → ⊥))
@@ -91,24 +97,33 @@ module _ (n w : ℕ) (h : List Event) (b : Book) (k : Kept n w h b) (s : ℕ) (c
       let q : circuit (liveOf b) i .colour ≡ c .colour = ap (λ (d : Circuit). d .colour) e in
       omega (arith, k .colours)
 
-  nobody-else : (link : ℕ) → link < n → uses (c .way) (endsOf c) link ≡ true → (t : ℕ) → Holding (RemoveAnswered s remove.Removed ∷ h) link (c .colour) t → ⊥
+  nobody-else : (link : ℕ) → link < n → uses (c .way) (endsOf c) link ≡ true → (t : ℕ)
+      → Holding (RemoveAnswered s remove.Removed ∷ h) link (c .colour) t → ⊥
   unfolding holds
   nobody-else link l u t g = other (g .live)
     where
       mine : heldBy b link (c .colour) ≡ holder.Held s
-      mine = held-by n w h b k link (c .colour) l colour-below s .1 (record { order = c; live = live; holding = true-and (eqb (c .colour) (c .colour)) (uses (c .way) (endsOf c) link) (eq-eqb (c .colour) (c .colour) refl) u })
+      mine = held-by n w h b k link (c .colour) l colour-below s .1
+          (record {
+            order = c;
+            live = live;
+            holding =
+                true-and (eqb (c .colour) (c .colour)) (uses (c .way) (endsOf c) link) (eq-eqb (c .colour) (c .colour) refl) u;
+          })
 
       other : Live (RemoveAnswered s remove.Removed ∷ h) t (g .order) → ⊥
       other (inl p) = p
       other (inr p) =
-          let theirs : heldBy b link (c .colour) ≡ holder.Held t = held-by n w h b k link (c .colour) l colour-below t .1 (record { order = g .order; live = p .1; holding = g .holding }) in
+          let theirs : heldBy b link (c .colour) ≡ holder.Held t =
+          held-by n w h b k link (c .colour) l colour-below t .1 (record { order = g .order; live = p .1; holding = g .holding }) in
           let f : holder.Held s ≡ holder.Held t = sym mine ∙ theirs in
           eqb-false s t (p .0) (cc f)
 
   pub frees : (link : ℕ) → link < n → uses (c .way) (endsOf c) link ≡ true → heldBy (removed b s .book) link (c .colour) ≡ holder.Free
   frees link l u =
       ap (λ (d : Book). heldBy d link (c .colour)) (removed-found b s (at .place) c (at .found))
-      ∙ held-free n w (RemoveAnswered s remove.Removed ∷ h) (withoutCircuit (at .place) b) (kept-removed n w h b k s (at .place) c (at .found)) link (c .colour) l colour-below .1 (nobody-else link l u)
+      ∙ held-free n w (RemoveAnswered s remove.Removed ∷ h) (withoutCircuit (at .place) b)
+      (kept-removed n w h b k s (at .place) c (at .found)) link (c .colour) l colour-below .1 (nobody-else link l u)
 
 -- the serials given are k, .., 2, 1
 down-at : (k i : ℕ) → i < k → getD (downFrom k) i 0 ≡ k - i
@@ -125,11 +140,49 @@ down-once k i j l h e =
     let hj : j < k = omega (arith, down-length k) in
     omega (arith, down-at k i (omega arith), down-at k j hj)
 
+-- one equivalence after the other
+both-ways : {P Q R : Type 0} → (P ↔ Q) → (Q ↔ R) → (P ↔ R)
+both-ways f g = (λ p. g .0 (f .0 p), λ r. f .1 (g .1 r))
+
+-- which serials are answered 14, and which 15
+module _ (n w : ℕ) (h : List Event) (b : Book) (k : Kept n w h b) (s : ℕ) where
+  never-given : neverGiven (b .grants) s ≡ not (wasGiven h s)
+  never-given = ap (λ (g : ℕ). neverGiven g s) (k .grants) ∙ never-given-told h (length (given h)) s (k .serials)
+
+  pub unknown : ((shown b s ≡ show.Refused SerialNeverGiven) ↔ (wasGiven h s ≡ false))
+  unknown = (λ e. untrue (wasGiven h s) (sym never-given ∙ shown-unknown b s .0 e), λ e. shown-unknown b s .1 (never-given ∙ ap not e))
+    where
+      untrue : (t : Bool) → not t ≡ true → t ≡ false
+      untrue true e = sym e
+      untrue false e = refl
+
+  pub gone : ((shown b s ≡ show.Refused SerialRemoved) ↔ ((wasGiven h s ≡ true) × (wasRemoved h s ≡ true)))
+  gone = (to, λ p. k .gone s (p .1))
+    where
+      to : shown b s ≡ show.Refused SerialRemoved → (wasGiven h s ≡ true) × (wasRemoved h s ≡ true)
+      to e = elim (is (wasGiven h s)) [
+        | yes p ↦ (
+          p,
+          elim (is (wasRemoved h s)) [
+            | yes q ↦ q
+            | no q ↦ let shows = k .stays s p q .is-shown in impossible (cc)
+          ],
+        )
+        | no p ↦ let other = unknown .1 p in impossible (cc)
+      ]
+
 after-history : (n w : ℕ) (h : List Event) (b : Book) → Kept n w h b → AfterHistory n w h b
 after-history n w h b k =
     record {
       valid = k .valid;
+      nodes = k .nodes;
+      colours = k .colours;
+      grants = k .grants;
       shows = k .shows;
+      unknown = unknown n w h b k;
+      unknown-removal = λ s. both-ways (removed-as-shown b s SerialNeverGiven) (unknown n w h b k s);
+      gone = gone n w h b k;
+      gone-removal = λ s. both-ways (removed-as-shown b s SerialRemoved) (gone n w h b k s);
       held = λ link colour hl hc. held-by n w h b k link colour hl hc;
       free = λ link colour hl hc. held-free n w h b k link colour hl hc;
       frees = λ s c live. frees n w h b k s c live;
@@ -139,4 +192,6 @@ after-history n w h b k =
     }
 
 pub every-history : EveryHistory
-every-history n w e calls = subst (λ (b : Book). AfterHistory n w (history b calls) (run b calls)) (sym (opened-book n w e)) (after-history n w (history (bookOf n w 0 []) calls) (run (bookOf n w 0 []) calls) (kept-run n w e calls))
+every-history n w e calls =
+    subst (λ (b : Book). AfterHistory n w (history b calls) (run b calls)) (sym (opened-book n w e))
+    (after-history n w (history (bookOf n w 0 []) calls) (run (bookOf n w 0 []) calls) (kept-run n w e calls))

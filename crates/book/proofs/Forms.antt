@@ -26,7 +26,8 @@ module _ (n w g : ℕ) (cs : List Circuit) where
   grant-form c h =
       let l : length (cs ++ (c ∷ [])) ≡ length cs + 1 = length-append cs (c ∷ []) in
       let m : 512 - length cs ≡ suc (512 - length (cs ++ (c ∷ []))) = omega (arith, l) in
-      let p : set (cs ++ replicate (512 - length cs) vacant) (length cs) c ≡ (cs ++ (c ∷ [])) ++ replicate (512 - length (cs ++ (c ∷ []))) vacant =
+      let p : set (cs ++ replicate (512 - length cs) vacant) (length cs) c ≡ (cs ++ (c ∷ []))
+      ++ replicate (512 - length (cs ++ (c ∷ []))) vacant =
       ap (λ (k : ℕ). set (cs ++ replicate k vacant) (length cs) c) m
       ∙ set-append-seam cs vacant (replicate (512 - length (cs ++ (c ∷ []))) vacant) c
       ∙ sym (append-snoc cs c (replicate (512 - length (cs ++ (c ∷ []))) vacant))
@@ -38,13 +39,15 @@ module _ (n w g : ℕ) (cs : List Circuit) where
   remove-form i h k =
       let l : length (without i cs) ≡ length cs - 1 = length-without i cs h in
       let m : suc (512 - length cs) ≡ 512 - length (without i cs) = omega (arith, l) in
-      let p : without i (liveOf (bookOf n w g cs)) ++ (vacant ∷ drop (length cs) (cs ++ replicate (512 - length cs) vacant)) ≡ without i cs ++ replicate (512 - length (without i cs)) vacant =
+      let p : without i (liveOf (bookOf n w g cs)) ++ (vacant ∷ drop (length cs) (cs ++ replicate (512 - length cs) vacant)) ≡ without i cs
+      ++ replicate (512 - length (without i cs)) vacant =
       ap (λ (xs : List Circuit). without i xs ++ (vacant ∷ drop (length cs) (cs ++ replicate (512 - length cs) vacant))) live-form
       ∙ ap (λ (xs : List Circuit). without i cs ++ (vacant ∷ xs)) (drop-append-seam cs (replicate (512 - length cs) vacant))
       ∙ ap (λ (j : ℕ). without i cs ++ replicate j vacant) m
       in
       ap (λ (ps : List Circuit). with-live (bookOf n w g cs) (length (liveOf (bookOf n w g cs)) - 1) ps) p
-      ∙ ap (λ (xs : List Circuit). with-live (bookOf n w g cs) (length xs - 1) (without i cs ++ replicate (512 - length (without i cs)) vacant)) live-form
+      ∙ ap (λ (xs : List Circuit).
+      with-live (bookOf n w g cs) (length xs - 1) (without i cs ++ replicate (512 - length (without i cs)) vacant)) live-form
       ∙ ap (λ (j : ℕ). with-live (bookOf n w g cs) j (without i cs ++ replicate (512 - length (without i cs)) vacant)) (sym l)
 
 -- the same of any valid book

@@ -64,15 +64,19 @@ module _ {M : Type 1} (𝓤 : URA M) (H : Heap 𝓤) (A : Atoms 𝓤) (W : Given
   unfolding partOf
   apart p =
       qed W (‵ (fat fullShare τA l o w) ∷ []) ∵ use1 W (‵ (cellAt fullShare (R .mir) (w ∷ []) l o)) (W .laws .at-raw fullShare τA l o w) $
-      owned ! R (Is R) (array-makes 𝓤 H A W T.the-row (LL.makes T.the-type T′.the-plain 𝓤 H A) 512) ps (w ∷ []) p $ move ! (1 ∷ 0 ∷ []) $ fjoin ! $
+      owned ! R (Is R) (array-makes 𝓤 H A W T.the-row (LL.makes T.the-type T′.the-plain 𝓤 H A) 512) ps (w ∷ []) p $ move ! (1 ∷ 0 ∷ [])
+      $ fjoin ! $
       fpack ! (List Val) (λ us. fsep (cellAt fullShare (R .mir) us l o) (R .own ps us)) (w ∷ []) $
       use1 W (‵ All) (array-apart 𝓤 H A W T.the-row fullShare tt 512 ps l o) $ done !
 
   pub whole-again : Is R ps (w ∷ []) → ent 𝓤 (sem 𝓤 H A All) (sem 𝓤 H A (fat fullShare τA l o w))
   unfolding partOf
   whole-again p =
-      qed W (‵ All ∷ []) ∵ use1 W (‵ (partAt R fullShare ps l o)) (array-whole 𝓤 H A W T.the-row fullShare 512 ps l o) $ fpick ! (λ vs. fsplit ! $
-      spelt ! R (Is R) (shows 𝓤 H A R) vals (array-tells T.the-row (LL.vals T.the-type T′.the-laws) (LL.tells T.the-type T′.the-laws) 512) fullShare ps vs l o $ move ! (1 ∷ []) $ drop ! $
+      qed W (‵ All ∷ []) ∵ use1 W (‵ (partAt R fullShare ps l o)) (array-whole 𝓤 H A W T.the-row fullShare 512 ps l o)
+      $ fpick ! (λ vs. fsplit ! $
+      spelt ! R (Is R) (shows 𝓤 H A R) vals
+      (array-tells T.the-row (LL.vals T.the-type T′.the-laws) (LL.tells T.the-type T′.the-laws) 512) fullShare ps vs l o
+      $ move ! (1 ∷ []) $ drop ! $
       rewrite ! 0 (λ (us : List Val). ‵ (cellAt fullShare (R .mir) us l o)) (sym (tells p)) refl $
       use1 W (‵ (fat fullShare τA l o w)) (W .laws .raw-at fullShare τA l o w) $ done !)
 
@@ -80,13 +84,18 @@ module _ {M : Type 1} (𝓤 : URA M) (H : Heap 𝓤) (A : Atoms 𝓤) (W : Given
   cuts =
       qed W (‵ All ∷ []) ∵ fsplit ! $ move ! (1 ∷ []) $ use1 W (‵ (cells (mem T.the-row) ps l o)) (whole-in 𝓤 H A W T.the-row ps l o) $
       rewrite ! 0 (λ (ys : List Circuit). ‵ (cells (mem T.the-row) ys l o)) (sym (take-append-drop k ps)) refl $
-      use1 W (‵ (cells (mem T.the-row) (take k ps) l o) ⊛ ‵ (cells (mem T.the-row) (dropL k ps) l (place-of o (mem T.the-row .size) (length (take k ps))))) (cut-app 𝓤 H A (mem T.the-row) (take k ps) (dropL k ps) l o) $ split ! $
-      use1 W (‵ (row T.the-row fullShare (take k ps) l o)) (whole-out 𝓤 H A W T.the-row (take k ps) l o) $ feqI ! ℕ (length (take k ps)) (length (take k ps)) refl $ fjoin ! $ frame ! $ fjoin ! $ done !
+      use1 W (‵ (cells (mem T.the-row) (take k ps) l o)
+      ⊛ ‵ (cells (mem T.the-row) (dropL k ps) l (place-of o (mem T.the-row .size) (length (take k ps)))))
+      (cut-app 𝓤 H A (mem T.the-row) (take k ps) (dropL k ps) l o) $ split ! $
+      use1 W (‵ (row T.the-row fullShare (take k ps) l o)) (whole-out 𝓤 H A W T.the-row (take k ps) l o)
+      $ feqI ! ℕ (length (take k ps)) (length (take k ps)) refl $ fjoin ! $ frame ! $ fjoin ! $ done !
 
   pub joins : ent 𝓤 (sep 𝓤 (sem 𝓤 H A First) (sem 𝓤 H A After)) (sem 𝓤 H A All)
   joins =
-      qed W (‵ First ∷ ‵ After ∷ []) ∵ fsplit ! $ drop ! $ use1 W (‵ (cells (mem T.the-row) (take k ps) l o)) (whole-in 𝓤 H A W T.the-row (take k ps) l o) $ move ! (1 ∷ []) $ fsplit ! $
+      qed W (‵ First ∷ ‵ After ∷ []) ∵ fsplit ! $ drop !
+      $ use1 W (‵ (cells (mem T.the-row) (take k ps) l o)) (whole-in 𝓤 H A W T.the-row (take k ps) l o) $ move ! (1 ∷ []) $ fsplit ! $
       -- [the rest's cells; the length; the first's cells]
-      move ! (2 ∷ 0 ∷ []) $ use2 W (‵ (cells (mem T.the-row) (take k ps ++ dropL k ps) l o)) (join-app 𝓤 H A (mem T.the-row) (take k ps) (dropL k ps) l o) $
+      move ! (2 ∷ 0 ∷ []) $ use2 W (‵ (cells (mem T.the-row) (take k ps ++ dropL k ps) l o))
+      (join-app 𝓤 H A (mem T.the-row) (take k ps) (dropL k ps) l o) $
       rewrite ! 0 (λ (ys : List Circuit). ‵ (cells (mem T.the-row) ys l o)) (take-append-drop k ps) refl $
       use1 W (‵ (row T.the-row fullShare ps l o)) (whole-out 𝓤 H A W T.the-row ps l o) $ move ! (1 ∷ 0 ∷ []) $ fjoin ! $ done !

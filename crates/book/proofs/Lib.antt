@@ -1,5 +1,6 @@
 -- The laws that the functions' proofs cite, and the theorems whose statements stand in specs/:
--- Forms (SameMeans), ConflictLaws (ConflictMeans), Validity (KeepsValid), EveryHistory, Cases (T7).
+-- Forms (SameMeans), ConflictLaws (ConflictMeans), Validity (KeepsValid), PlaceLaws (PlacesUsedAgain), NoNodeLaws (TurnsAllDown),
+-- EveryHistory.
 pub mod Places
 pub mod Forms
 pub mod CircuitLists
@@ -13,7 +14,9 @@ pub mod Verdicts
 pub mod Granting
 pub mod Validity
 pub mod Showing
+pub mod Serials
 pub mod Holding
+pub mod NoNodeLaws
+pub mod PlaceLaws
 pub mod Histories
 pub mod EveryHistory
-pub mod Cases

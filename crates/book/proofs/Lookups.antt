@@ -17,11 +17,13 @@ use Rattle.book.specs.Orders.{neverGiven, lookupIn, lookup}
 use Rattle.book.proofs.Places.{next, none-left}
 
 module _ (b : Book) (s i : ℕ) where
-  pub lookup-found : i < length (liveOf b) → getD (b .places) i vacant .serial ≡ s → lookupIn i (drop i (liveOf b)) s ≡ Found i (getD (b .places) i vacant)
+  pub lookup-found : i < length (liveOf b) → getD (b .places) i vacant .serial ≡ s
+      → lookupIn i (drop i (liveOf b)) s ≡ Found i (getD (b .places) i vacant)
   unfolding lookupIn
   lookup-found h e = rw (next b i h, eq-eqb _ _ e)
 
-  pub lookup-passed : i < length (liveOf b) → (getD (b .places) i vacant .serial ≡ s → ⊥) → lookupIn i (drop i (liveOf b)) s ≡ lookupIn (i + 1) (drop (i + 1) (liveOf b)) s
+  pub lookup-passed : i < length (liveOf b) → (getD (b .places) i vacant .serial ≡ s → ⊥)
+      → lookupIn i (drop i (liveOf b)) s ≡ lookupIn (i + 1) (drop (i + 1) (liveOf b)) s
   unfolding lookupIn
   lookup-passed h e = rw (next b i h, ne-eqb _ _ e)
 
@@ -36,12 +38,19 @@ pub record FoundIn (cs : List Circuit) (j s i : ℕ) (c : Circuit) : Type 0 wher
   pub there : circuit cs (i - j) ≡ c
   pub serial : c .serial ≡ s
 
-found-first : (x : Circuit) (cs : List Circuit) (j s i : ℕ) (c : Circuit) (f : Lookup) (t : Bool) → eqb (x .serial) s ≡ t → (f ≡ Found i c → FoundIn cs (j + 1) s i c) → cond t (Found j x) f ≡ Found i c → FoundIn (x ∷ cs) j s i c
+found-first : (x : Circuit) (cs : List Circuit) (j s i : ℕ) (c : Circuit) (f : Lookup) (t : Bool) → eqb (x .serial) s ≡ t
+    → (f ≡ Found i c → FoundIn cs (j + 1) s i c) → cond t (Found j x) f ≡ Found i c → FoundIn (x ∷ cs) j s i c
 found-first x cs j s i c f true q k e =
     let ei : j ≡ i = cc in
     let ec : x ≡ c = cc in
     let z : i - j ≡ 0 = omega arith in
-    record { from = omega arith; inside = omega arith; there = ap (circuit (x ∷ cs)) z ∙ ec; serial = ap (λ (y : Circuit). y .serial) (sym ec) ∙ eqb-true _ _ q }
+    record {
+      from = omega arith;
+      inside = omega arith;
+      there = ap (circuit (x ∷ cs)) z ∙ ec;
+      serial =
+          ap (λ (y : Circuit). y .serial) (sym ec) ∙ eqb-true _ _ q;
+    }
 found-first x cs j s i c f false q k e =
     let r : FoundIn cs (j + 1) s i c = k e in
     let l : j + 1 ≤ i = r .from in

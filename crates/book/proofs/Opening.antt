@@ -14,19 +14,24 @@ use Rattle.book.specs.declared.books.OpenAnswer.the-variants as answer
 use Rattle.book.specs.declared.books.Opened.{Opened}
 use Rattle.book.specs.Books.{bookOf, openUnless, opened, Valid}
 
-made : (v : Verdict) (n w : ℕ) (r : Ring) → ringUnless v n w ≡ ring.Made r → record { answer = answer.Opened; book = bookOf n w 0 [] } ≡ openUnless v n w
+made : (v : Verdict) (n w : ℕ) (r : Ring) → ringUnless v n w ≡ ring.Made r
+    → record { answer = answer.Opened; book = bookOf n w 0 [] } ≡ openUnless v n w
 made verdict.Allowed n w r e = refl
 made (verdict.Refused q) n w r e = let z : _≡_ {A = ℕ} 0 1 = cc in absurd (omega arith)
 
-refused : (v : Verdict) (n w : ℕ) (r : Refusal) → ringUnless v n w ≡ ring.Refused r → record { answer = answer.Refused r; book = bookOf 0 0 0 [] } ≡ openUnless v n w
+refused : (v : Verdict) (n w : ℕ) (r : Refusal) → ringUnless v n w ≡ ring.Refused r
+    → record { answer = answer.Refused r; book = bookOf 0 0 0 [] } ≡ openUnless v n w
 refused verdict.Allowed n w r e = let z : _≡_ {A = ℕ} 0 1 = cc in absurd (omega arith)
-refused (verdict.Refused q) n w r e = let z : r ≡ q = cc in ap (λ (x : Refusal). record { answer = answer.Refused x; book = bookOf 0 0 0 [] }) z
+refused (verdict.Refused q) n w r e = let z : r ≡ q = cc in
+    ap (λ (x : Refusal). record { answer = answer.Refused x; book = bookOf 0 0 0 [] }) z
 
-pub opened-made : (n w : ℕ) (r : Ring) → ringAnswer n w ≡ ring.Made r → record { answer = answer.Opened; book = bookOf n w 0 [] } ≡ opened n w
+pub opened-made : (n w : ℕ) (r : Ring) → ringAnswer n w ≡ ring.Made r
+    → record { answer = answer.Opened; book = bookOf n w 0 [] } ≡ opened n w
 unfolding opened ringAnswer
 opened-made n w r e = made (ringVerdict n w) n w r e
 
-pub opened-refused : (n w : ℕ) (r : Refusal) → ringAnswer n w ≡ ring.Refused r → record { answer = answer.Refused r; book = bookOf 0 0 0 [] } ≡ opened n w
+pub opened-refused : (n w : ℕ) (r : Refusal) → ringAnswer n w ≡ ring.Refused r
+    → record { answer = answer.Refused r; book = bookOf 0 0 0 [] } ≡ opened n w
 unfolding opened ringAnswer
 opened-refused n w r e = refused (ringVerdict n w) n w r e
 

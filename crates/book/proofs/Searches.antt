@@ -15,16 +15,19 @@ use Rattle.book.specs.declared.holders.HolderAnswer.{HolderAnswer}
 use Rattle.book.specs.declared.holders.HolderAnswer.the-variants.{Free, Held}
 use Rattle.book.specs.Circuits.{vacant, circuit, someCircuit, holds}
 use Rattle.book.specs.Books.{liveOf}
-use Rattle.book.specs.Conflicts.{conflicts, conflictIn}
-use Rattle.book.specs.Holders.{holderIn, holderPlace}
+use Rattle.book.specs.Internal.Conflicts.{conflicts, conflictIn}
+use Rattle.book.specs.Holders.{holderIn}
+use Rattle.book.specs.Internal.Places.{holderPlace}
 use Rattle.book.proofs.Places.{list-next, next, none-left}
 
 module _ (b : Book) (way : Way) (r : Request) (colour i : ℕ) where
-  pub conflict-found : i < length (liveOf b) → conflicts (getD (b .places) i vacant) way r colour ≡ true → conflictIn (drop i (liveOf b)) way r colour ≡ true
+  pub conflict-found : i < length (liveOf b) → conflicts (getD (b .places) i vacant) way r colour ≡ true
+      → conflictIn (drop i (liveOf b)) way r colour ≡ true
   unfolding conflictIn someCircuit
   conflict-found h e = rw (next b i h, e)
 
-  pub conflict-passed : i < length (liveOf b) → conflicts (getD (b .places) i vacant) way r colour ≡ false → conflictIn (drop i (liveOf b)) way r colour ≡ conflictIn (drop (i + 1) (liveOf b)) way r colour
+  pub conflict-passed : i < length (liveOf b) → conflicts (getD (b .places) i vacant) way r colour ≡ false
+      → conflictIn (drop i (liveOf b)) way r colour ≡ conflictIn (drop (i + 1) (liveOf b)) way r colour
   unfolding conflictIn someCircuit
   conflict-passed h e = rw (next b i h, e)
 
@@ -38,7 +41,8 @@ module _ (cs : List Circuit) (link colour i : ℕ) where
   unfolding holderPlace
   holder-found h e = rw (list-next cs i h, e)
 
-  pub holder-passed : i < length cs → holds (getD cs i vacant) link colour ≡ false → holderPlace i (drop i cs) link colour ≡ holderPlace (i + 1) (drop (i + 1) cs) link colour
+  pub holder-passed : i < length cs → holds (getD cs i vacant) link colour ≡ false
+      → holderPlace i (drop i cs) link colour ≡ holderPlace (i + 1) (drop (i + 1) cs) link colour
   unfolding holderPlace
   holder-passed h e = rw (list-next cs i h, e)
 
@@ -77,6 +81,7 @@ unfolding holderIn holderPlace
 holder-answer [] link colour i = ap (λ (t : Bool). cond t (Held (circuit [] (i - i) .serial)) Free) (sym (le-ltb i (i + 0) (omega arith)))
 holder-answer (c ∷ cs) link colour i = go (holds c link colour) (holder-answer cs link colour (i + 1))
   where
-    go : (t : Bool) → holderIn cs link colour ≡ answerAt cs (i + 1) (holderPlace (i + 1) cs link colour) → cond t (Held (c .serial)) (holderIn cs link colour) ≡ answerAt (c ∷ cs) i (cond t i (holderPlace (i + 1) cs link colour))
+    go : (t : Bool) → holderIn cs link colour ≡ answerAt cs (i + 1) (holderPlace (i + 1) cs link colour)
+        → cond t (Held (c .serial)) (holderIn cs link colour) ≡ answerAt (c ∷ cs) i (cond t i (holderPlace (i + 1) cs link colour))
     go true e = answer-first c cs i
     go false e = e ∙ answer-next c cs i (holderPlace (i + 1) cs link colour) (place-from cs link colour (i + 1))

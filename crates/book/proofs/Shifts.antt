@@ -4,7 +4,8 @@ use mathlib.Core.Path.{_≡_, sym, _∙_, ap}
 use mathlib.Core.List.{List, _∷_, _++_}
 use native.Mathlib.Omega.{arith}
 use lib.ListN.{length, take, drop, getD, set}
-use lib.Seq.{drop-cons, getD-take, getD-drop, paste, paste-suc, paste-zero, drop-paste, length-paste-head, take-length, take-take, set-at, length-slice}
+use lib.Seq.{drop-cons, getD-take, getD-drop, paste, paste-suc, paste-zero, drop-paste, length-paste-head, take-length, take-take, set-at}
+use lib.Seq.{length-slice}
 use Rattle.book.specs.declared.circuits.Circuit.{Circuit}
 use Rattle.book.specs.declared.books.Book.{Book}
 use Rattle.book.specs.Circuits.{vacant}
@@ -24,7 +25,8 @@ module _ (xs : List Circuit) (n at : ℕ) (h : n ≤ length xs) (g : at < n) whe
   later-length = length-slice (at + 1) n xs h
 
   -- one circuit more moves down
-  shift-next : (j : ℕ) (z : Circuit) → at + j + 1 < n → set (moved xs n at j) (at + j) (getD (moved xs n at j) (at + j + 1) z) ≡ moved xs n at (suc j)
+  shift-next : (j : ℕ) (z : Circuit) → at + j + 1 < n
+      → set (moved xs n at j) (at + j) (getD (moved xs n at j) (at + j + 1) z) ≡ moved xs n at (suc j)
   shift-next j z l =
       let le : j < length later = rw later-length (omega arith) in
       let e : getD (moved xs n at j) (at + j + 1) z ≡ getD later j z =
@@ -46,7 +48,8 @@ module _ (xs : List Circuit) (n at : ℕ) (h : n ≤ length xs) (g : at < n) whe
       let e₂ : suc (n - 1) ≡ n = omega arith in
       ap (λ (m : ℕ). drop m xs) e₁ ∙ drop-cons xs (n - 1) v (omega arith) ∙ ap (λ (m : ℕ). getD xs (n - 1) v ∷ drop m xs) e₂
       in
-      let el : length (take at xs ++ take (n - 1 - at) later) ≡ n - 1 = length-paste-head xs at later (n - 1 - at) (omega arith) (omega arith) ∙ omega arith in
+      let el : length (take at xs ++ take (n - 1 - at) later) ≡ n - 1 =
+      length-paste-head xs at later (n - 1 - at) (omega arith) (omega arith) ∙ omega arith in
       ap (λ (r : List Circuit). set (take at xs ++ take (n - 1 - at) later ++ r) (n - 1) v) e
       ∙ set-at (take at xs ++ take (n - 1 - at) later) (getD xs (n - 1) v) (drop n xs) v (n - 1) el
       ∙ ap (λ (r : List Circuit). take at xs ++ r ++ (v ∷ drop n xs)) (ap (λ (m : ℕ). take m later) ek ∙ take-length later)
@@ -64,20 +67,25 @@ module _ (b : Book) (at : ℕ) (g : at < length (liveOf b)) where
   pub shifted-none : b ≡ shifted b at at
   shifted-none =
       let e : 0 ≡ at - at = omega arith in
-      ap (with-places b) (paste-zero (b .places) at (drop (at + 1) (take (length (liveOf b)) (b .places))) ∙ ap (moved (b .places) (length (liveOf b)) at) e)
+      ap (with-places b) (paste-zero (b .places) at (drop (at + 1) (take (length (liveOf b)) (b .places)))
+      ∙ ap (moved (b .places) (length (liveOf b)) at) e)
 
-  pub shifted-next : (d : Book) (i : ℕ) → d ≡ shifted b at i → at ≤ i → i + 1 < length (liveOf b) → with-places d (set (d .places) i (getD (d .places) (i + 1) vacant)) ≡ shifted b at (i + 1)
+  pub shifted-next : (d : Book) (i : ℕ) → d ≡ shifted b at i → at ≤ i → i + 1 < length (liveOf b)
+      → with-places d (set (d .places) i (getD (d .places) (i + 1) vacant)) ≡ shifted b at (i + 1)
   shifted-next d i e l k =
       let e₁ : i ≡ at + (i - at) = omega arith in
       let e₂ : suc (i - at) ≡ i + 1 - at = omega arith in
       ap (λ (x : Book). with-places x (set (x .places) i (getD (x .places) (i + 1) vacant))) e
       ∙ ap (λ (j : ℕ). with-places b (set (shifted b at i .places) j (getD (shifted b at i .places) (j + 1) vacant))) e₁
-      ∙ ap (with-places b) (shift-next (b .places) (length (liveOf b)) at (live-fits b) g (i - at) vacant (omega arith) ∙ ap (moved (b .places) (length (liveOf b)) at) e₂)
+      ∙ ap (with-places b) (shift-next (b .places) (length (liveOf b)) at (live-fits b) g (i - at) vacant (omega arith)
+      ∙ ap (moved (b .places) (length (liveOf b)) at) e₂)
 
-  pub shifted-all : (d : Book) (last live : ℕ) (v : Circuit) → d ≡ shifted b at last → last ≡ length (liveOf b) - 1 → live ≡ last → v ≡ vacant
+  pub shifted-all : (d : Book) (last live : ℕ) (v : Circuit) → d ≡ shifted b at last → last ≡ length (liveOf b) - 1 → live ≡ last
+      → v ≡ vacant
       → record { n = d .n; w = d .w; grants = d .grants; live = live; places = set (d .places) last v } ≡ withoutCircuit at b
   shifted-all d last live v e k el ev =
-      let ended : set (moved (b .places) (length (liveOf b)) at (length (liveOf b) - 1 - at)) (length (liveOf b) - 1) vacant ≡ without at (liveOf b) ++ (vacant ∷ drop (b .live) (b .places)) =
+      let ended : set (moved (b .places) (length (liveOf b)) at (length (liveOf b) - 1 - at)) (length (liveOf b) - 1) vacant
+      ≡ without at (liveOf b) ++ (vacant ∷ drop (b .live) (b .places)) =
       shift-ended (b .places) (length (liveOf b)) at (live-fits b) g vacant
       ∙ ap (λ (ys : List Circuit). without at ys ++ (vacant ∷ drop (length (liveOf b)) (b .places))) (live-take b)
       ∙ ap (λ (ys : List Circuit). without at (liveOf b) ++ (vacant ∷ ys)) (live-drop b)
@@ -85,5 +93,13 @@ module _ (b : Book) (at : ℕ) (g : at < length (liveOf b)) where
       ap (λ (m : ℕ). record { n = d .n; w = d .w; grants = d .grants; live = m; places = set (d .places) last v }) el
       ∙ ap (λ (x : Book). record { n = x .n; w = x .w; grants = x .grants; live = last; places = set (x .places) last v }) e
       ∙ ap (λ (j : ℕ). record { n = b .n; w = b .w; grants = b .grants; live = j; places = set (shifted b at j .places) j v }) k
-      ∙ ap (λ (u : Circuit). record { n = b .n; w = b .w; grants = b .grants; live = length (liveOf b) - 1; places = set (shifted b at (length (liveOf b) - 1) .places) (length (liveOf b) - 1) u }) ev
+      ∙ ap (λ (u : Circuit).
+      record {
+        n = b .n;
+        w = b .w;
+        grants = b .grants;
+        live = length (liveOf b) - 1;
+        places =
+            set (shifted b at (length (liveOf b) - 1) .places) (length (liveOf b) - 1) u;
+      }) ev
       ∙ ap (λ (ps : List Circuit). record { n = b .n; w = b .w; grants = b .grants; live = length (liveOf b) - 1; places = ps }) ended

@@ -36,7 +36,8 @@ unfolding lookupIn
 show-found [] i s = refl
 show-found (c ∷ cs) i s = go (eqb (c .serial) s) (show-found cs (i + 1) s)
   where
-    go : (t : Bool) → showFound (lookupIn (i + 1) cs s) SerialRemoved ≡ showIn cs s → showFound (cond t (Found i c) (lookupIn (i + 1) cs s)) SerialRemoved ≡ cond t (Shown c) (showIn cs s)
+    go : (t : Bool) → showFound (lookupIn (i + 1) cs s) SerialRemoved ≡ showIn cs s
+        → showFound (cond t (Found i c) (lookupIn (i + 1) cs s)) SerialRemoved ≡ cond t (Shown c) (showIn cs s)
     go true e = refl
     go false e = e
 
@@ -44,7 +45,8 @@ pub shown-is : (b : Book) (s : ℕ) → shown b s ≡ showAfter (b .grants) (liv
 unfolding shown lookup missing
 shown-is b s = go (neverGiven (b .grants) s)
   where
-    go : (t : Bool) → showFound (cond t Missing (lookupIn 0 (liveOf b) s)) (cond t SerialNeverGiven SerialRemoved) ≡ cond t (Refused SerialNeverGiven) (showIn (liveOf b) s)
+    go : (t : Bool) → showFound (cond t Missing (lookupIn 0 (liveOf b) s)) (cond t SerialNeverGiven SerialRemoved)
+        ≡ cond t (Refused SerialNeverGiven) (showIn (liveOf b) s)
     go true = refl
     go false = show-found (liveOf b) 0 s
 
@@ -62,7 +64,8 @@ pub shown-at : (cs : List Circuit) (s : ℕ) (c : Circuit) → showIn cs s ≡ S
 shown-at [] s c e = let z : _≡_ {A = ℕ} 0 1 = cc in absurd (omega arith)
 shown-at (x ∷ cs) s c e = go (eqb (x .serial) s) refl (shown-at cs s c) e
   where
-    go : (t : Bool) → eqb (x .serial) s ≡ t → (showIn cs s ≡ Shown c → ShownAt cs s c) → cond t (Shown x) (showIn cs s) ≡ Shown c → ShownAt (x ∷ cs) s c
+    go : (t : Bool) → eqb (x .serial) s ≡ t → (showIn cs s ≡ Shown c → ShownAt cs s c) → cond t (Shown x) (showIn cs s) ≡ Shown c
+        → ShownAt (x ∷ cs) s c
     go true q f h =
         let ec : x ≡ c = cc in
         record { place = 0; below = omega arith; there = ec; serial = ap (λ (y : Circuit). y .serial) (sym ec) ∙ eqb-true (x .serial) s q }
@@ -72,7 +75,8 @@ shown-at (x ∷ cs) s c e = go (eqb (x .serial) s) refl (shown-at cs s c) e
         record { place = suc (r .place); below = omega arith; there = r .there; serial = r .serial }
 
 -- the first circuit of the serial is shown
-pub first-shown : (cs : List Circuit) (s i : ℕ) → i < length cs → circuit cs i .serial ≡ s → ((j : ℕ) → j < i → circuit cs j .serial ≡ s → ⊥) → showIn cs s ≡ Shown (circuit cs i)
+pub first-shown : (cs : List Circuit) (s i : ℕ) → i < length cs → circuit cs i .serial ≡ s
+    → ((j : ℕ) → j < i → circuit cs j .serial ≡ s → ⊥) → showIn cs s ≡ Shown (circuit cs i)
 first-shown [] s i h e f = absurd (omega arith)
 first-shown (x ∷ cs) s zero h e f = ap (λ (t : Bool). cond t (Shown x) (showIn cs s)) (eq-eqb (x .serial) s e)
 first-shown (x ∷ cs) s (suc i) h e f =
@@ -90,14 +94,16 @@ snoc-other : (cs : List Circuit) (c : Circuit) (s : ℕ) → (c .serial ≡ s �
 snoc-other [] c s d = ap (λ (t : Bool). cond t (Shown c) (Refused SerialRemoved)) (ne-eqb (c .serial) s d)
 snoc-other (x ∷ cs) c s d = ap (cond (eqb (x .serial) s) (Shown x)) (snoc-other cs c s d)
 
-snoc-shown : (cs : List Circuit) (c : Circuit) (s : ℕ) → c .serial ≡ s → ((i : ℕ) → i < length cs → circuit cs i .serial ≡ s → ⊥) → showIn (cs ++ (c ∷ [])) s ≡ Shown c
+snoc-shown : (cs : List Circuit) (c : Circuit) (s : ℕ) → c .serial ≡ s → ((i : ℕ) → i < length cs → circuit cs i .serial ≡ s → ⊥)
+    → showIn (cs ++ (c ∷ [])) s ≡ Shown c
 snoc-shown [] c s e f = ap (λ (t : Bool). cond t (Shown c) (Refused SerialRemoved)) (eq-eqb (c .serial) s e)
 snoc-shown (x ∷ cs) c s e f =
     ap (λ (t : Bool). cond t (Shown x) (showIn (cs ++ (c ∷ [])) s)) (ne-eqb (x .serial) s (f 0 (omega arith)))
     ∙ snoc-shown cs c s e (λ i l. f (suc i) (omega arith))
 
 -- one circuit less
-drop-other : (cs : List Circuit) (at s : ℕ) → at < length cs → (circuit cs at .serial ≡ s → ⊥) → showIn (take at cs ++ drop (suc at) cs) s ≡ showIn cs s
+drop-other : (cs : List Circuit) (at s : ℕ) → at < length cs → (circuit cs at .serial ≡ s → ⊥)
+    → showIn (take at cs ++ drop (suc at) cs) s ≡ showIn cs s
 drop-other [] at s h d = absurd (omega arith)
 drop-other (x ∷ cs) zero s h d = ap (λ (t : Bool). cond t (Shown x) (showIn cs s)) (sym (ne-eqb (x .serial) s d))
 drop-other (x ∷ cs) (suc at) s h d = ap (cond (eqb (x .serial) s) (Shown x)) (drop-other cs at s (omega arith) d)
@@ -110,7 +116,8 @@ never-given-not : (g s : ℕ) → 1 ≤ s → s ≤ g → neverGiven g s ≡ fal
 unfolding neverGiven
 never-given-not g s h₁ h₂ = ap (λ (t : Bool). t || ltb g s) (ne-eqb s 0 (λ e. omega arith)) ∙ le-ltb g s h₂
 
-pub shown-given : (g : ℕ) (cs : List Circuit) (s : ℕ) (c : Circuit) → showAfter g cs s ≡ Shown c → (neverGiven g s ≡ false) × (showIn cs s ≡ Shown c)
+pub shown-given : (g : ℕ) (cs : List Circuit) (s : ℕ) (c : Circuit) → showAfter g cs s ≡ Shown c
+    → (neverGiven g s ≡ false) × (showIn cs s ≡ Shown c)
 shown-given g cs s c e = go (neverGiven g s) e
   where
     go : (t : Bool) → cond t (Refused SerialNeverGiven) (showIn cs s) ≡ Shown c → (t ≡ false) × (showIn cs s ≡ Shown c)
@@ -141,16 +148,19 @@ module _ (n w g : ℕ) (cs : List Circuit) (v : ValidCircuits n w g cs) where
   pub live-shown : (i : ℕ) → i < length cs → showAfter g cs (circuit cs i .serial) ≡ Shown (circuit cs i)
   live-shown i h =
       let p = v .given i h in
-      ap (λ (t : Bool). cond t (Refused SerialNeverGiven) (showIn cs (circuit cs i .serial))) (never-given-not g (circuit cs i .serial) (p .0) (p .1))
+      ap (λ (t : Bool). cond t (Refused SerialNeverGiven) (showIn cs (circuit cs i .serial)))
+      (never-given-not g (circuit cs i .serial) (p .0) (p .1))
       ∙ first-shown cs (circuit cs i .serial) i h refl (λ j l e. one-serial j i (omega arith) h e (λ q. omega arith))
 
   -- after a grant
   pub grant-shows-new : (c : Circuit) → c .serial ≡ g + 1 → showAfter (g + 1) (cs ++ (c ∷ [])) (g + 1) ≡ Shown c
   grant-shows-new c e =
-      ap (λ (t : Bool). cond t (Refused SerialNeverGiven) (showIn (cs ++ (c ∷ [])) (g + 1))) (never-given-not (g + 1) (g + 1) (omega arith) (omega arith))
+      ap (λ (t : Bool). cond t (Refused SerialNeverGiven) (showIn (cs ++ (c ∷ [])) (g + 1)))
+      (never-given-not (g + 1) (g + 1) (omega arith) (omega arith))
       ∙ snoc-shown cs c (g + 1) e (λ i h q. let p = v .given i h in omega arith)
 
-  pub grant-shows-old : (c : Circuit) (s : ℕ) → c .serial ≡ g + 1 → (g + 1 ≡ s → ⊥) → showAfter (g + 1) (cs ++ (c ∷ [])) s ≡ showAfter g cs s
+  pub grant-shows-old : (c : Circuit) (s : ℕ) → c .serial ≡ g + 1 → (g + 1 ≡ s → ⊥)
+      → showAfter (g + 1) (cs ++ (c ∷ [])) s ≡ showAfter g cs s
   unfolding neverGiven
   grant-shows-old c s e d =
       let same : ltb (g + 1) s ≡ ltb g s =
@@ -166,9 +176,11 @@ module _ (n w g : ℕ) (cs : List Circuit) (v : ValidCircuits n w g cs) where
   pub removal-shows-none : (at : ℕ) → at < length cs → showAfter g (without at cs) (circuit cs at .serial) ≡ Refused SerialRemoved
   removal-shows-none at h =
       let p = v .given at h in
-      ap (λ (t : Bool). cond t (Refused SerialNeverGiven) (showIn (without at cs) (circuit cs at .serial))) (never-given-not g (circuit cs at .serial) (p .0) (p .1))
+      ap (λ (t : Bool). cond t (Refused SerialNeverGiven) (showIn (without at cs) (circuit cs at .serial)))
+      (never-given-not g (circuit cs at .serial) (p .0) (p .1))
       ∙ none-shown (without at cs) (circuit cs at .serial)
       (all-without cs at h (λ x. x .serial ≡ circuit cs at .serial → ⊥) (λ i l d e. one-serial i at l h e d))
 
-  pub removal-shows-others : (at s : ℕ) → at < length cs → (circuit cs at .serial ≡ s → ⊥) → showAfter g (without at cs) s ≡ showAfter g cs s
+  pub removal-shows-others : (at s : ℕ) → at < length cs → (circuit cs at .serial ≡ s → ⊥)
+      → showAfter g (without at cs) s ≡ showAfter g cs s
   removal-shows-others at s h d = ap (cond (neverGiven g s) (Refused SerialNeverGiven)) (without-other cs at s h d)

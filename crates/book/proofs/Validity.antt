@@ -11,6 +11,7 @@ use Rattle.ring.specs.declared.refusals.Verdict.{Verdict}
 use Rattle.ring.specs.declared.refusals.Verdict.the-variants as verdict
 use Rattle.ring.specs.Requests.{requestOf}
 use Rattle.ring.specs.Ways.{uses}
+use Rattle.ring.proofs.Cases.{and-true}
 use Rattle.ring.proofs.WayLaws.{some-none}
 use Rattle.book.specs.declared.circuits.Circuit.{Circuit}
 use Rattle.book.specs.declared.books.Book.{Book}
@@ -18,34 +19,45 @@ use Rattle.book.specs.declared.orders.Lookup.{Lookup}
 use Rattle.book.specs.declared.orders.Lookup.the-variants.{Found, Missing}
 use Rattle.book.specs.Circuits.{circuit, holds}
 use Rattle.book.specs.Books.{liveOf, bookOf, Valid, ValidCircuits}
-use Rattle.book.specs.Grants.{wayOf, circuitOf, heldIn, colourHeld, grantVerdict, withCircuit, grantUnless, granted}
+use Rattle.book.specs.Grants.{wayOf, circuitOf, heldIn, heldOnWay, colourHeld, grantVerdict, withCircuit, grantUnless, granted}
 use Rattle.book.specs.Orders.{lookup, missing}
 use Rattle.book.specs.Removals.{without, withoutCircuit, removeFound, removed}
 use Rattle.book.specs.History.{KeepsValid}
 use Rattle.book.proofs.Opening.{opened-book, opened-valid}
 use Rattle.book.proofs.Forms.{live-form, valid-live, with-form, without-form, length-without}
 use Rattle.book.proofs.CircuitLists.{snoc-length, all-snoc, pairs-snoc, all-without, pairs-without}
-use Rattle.book.proofs.ConflictLaws.{and-true, true-and, holds-held}
+use Rattle.book.proofs.ConflictLaws.{true-and, holds-held}
 use Rattle.book.proofs.Lookups.{found-place}
 use Rattle.book.proofs.Verdicts.{GoodGrant, good-grant}
 
 -- the book with valid circuits
-pub valid-of : (n w g : ℕ) (cs : List Circuit) → (3 ≤ n) × (n ≤ 256) → (1 ≤ w) × (w ≤ 128) → g ≤ 65535 → ValidCircuits n w g cs → Valid (bookOf n w g cs)
+pub valid-of : (n w g : ℕ) (cs : List Circuit) → (3 ≤ n) × (n ≤ 256) → (1 ≤ w) × (w ≤ 128) → g ≤ 65535 → ValidCircuits n w g cs
+    → Valid (bookOf n w g cs)
 valid-of n w g cs hn hw hg v =
-    record { nodes = hn; colours = hw; few = hg; form = ap (bookOf n w g) (sym (live-form n w g cs)); circuits = subst (ValidCircuits n w g) (sym (live-form n w g cs)) v }
+    record {
+      nodes = hn;
+      colours = hw;
+      few = hg;
+      form = ap (bookOf n w g) (sym (live-form n w g cs));
+      circuits =
+          subst (ValidCircuits n w g) (sym (live-form n w g cs)) v;
+    }
 
 -- a new circuit with the next serial, and with no colour on a link that another one holds
-pub snoc-valid : (n w g : ℕ) (cs : List Circuit) (c : Circuit) → ValidCircuits n w g cs → length cs < 512 → c .serial ≡ g + 1 → c .a < c .b → c .b < n → c .colour < w
+pub snoc-valid : (n w g : ℕ) (cs : List Circuit) (c : Circuit) → ValidCircuits n w g cs → length cs < 512 → c .serial ≡ g + 1 → c .a < c .b
+    → c .b < n → c .colour < w
     → ((i : ℕ) → i < length cs → (link colour : ℕ) → link < n → holds (circuit cs i) link colour ≡ true → holds c link colour ≡ false)
     → ValidCircuits n w (g + 1) (cs ++ (c ∷ []))
 snoc-valid n w g cs c v room e h₁ h₂ h₃ new =
     record {
       room = omega (arith, snoc-length cs c);
-      given = all-snoc cs c (λ x. (1 ≤ x .serial) × (x .serial ≤ g + 1)) (λ i h. let p = v .given i h in (p .0, omega arith)) (omega arith, omega arith);
+      given = all-snoc cs c (λ x. (1 ≤ x .serial) × (x .serial ≤ g + 1)) (λ i h. let p = v .given i h in (p .0, omega arith))
+          (omega arith, omega arith);
       rising = pairs-snoc cs c (λ x y. x .serial < y .serial) (v .rising) (λ i h. let p = v .given i h in omega arith);
       ends = all-snoc cs c (λ x. (x .a < x .b) × (x .b < n)) (v .ends) (h₁, h₂);
       colours = all-snoc cs c (λ x. x .colour < w) (v .colours) h₃;
-      apart = pairs-snoc cs c (λ x y. (link colour : ℕ) → link < n → holds x link colour ≡ true → holds y link colour ≡ false) (v .apart) new;
+      apart = pairs-snoc cs c (λ x y. (link colour : ℕ) → link < n → holds x link colour ≡ true → holds y link colour ≡ false)
+          (v .apart) new;
     }
 
 pub without-valid : (n w g : ℕ) (cs : List Circuit) (at : ℕ) → ValidCircuits n w g cs → at < length cs → ValidCircuits n w g (without at cs)
@@ -57,22 +69,27 @@ without-valid n w g cs at v l =
       rising = pairs-without cs at l (λ x y. x .serial < y .serial) (v .rising);
       ends = all-without cs at l (λ x. (x .a < x .b) × (x .b < n)) (λ i h d. v .ends i h);
       colours = all-without cs at l (λ x. x .colour < w) (λ i h d. v .colours i h);
-      apart = pairs-without cs at l (λ x y. (link colour : ℕ) → link < n → holds x link colour ≡ true → holds y link colour ≡ false) (v .apart);
+      apart = pairs-without cs at l (λ x y. (link colour : ℕ) → link < n → holds x link colour ≡ true → holds y link colour ≡ false)
+          (v .apart);
     }
 
 module _ (b : Book) (v : Valid b) where
   -- ground 11 is not there: the new circuit holds nothing that a live one holds
   new-apart : (s x y way colour : ℕ) → colourHeld b (wayOf way) (requestOf x y) colour ≡ false
-      → (i : ℕ) → i < length (liveOf b) → (link k : ℕ) → link < b .n → holds (circuit (liveOf b) i) link k ≡ true → holds (circuitOf s x y way colour) link k ≡ false
-  unfolding colourHeld holds
+      → (i : ℕ) → i < length (liveOf b) → (link k : ℕ) → link < b .n → holds (circuit (liveOf b) i) link k ≡ true
+      → holds (circuitOf s x y way colour) link k ≡ false
+  unfolding colourHeld heldOnWay holds
   new-apart s x y way colour free i h link k l e = go (holds (circuitOf s x y way colour) link k) refl
     where
       go : (t : Bool) → holds (circuitOf s x y way colour) link k ≡ t → t ≡ false
       go false q = refl
       go true q =
           let p = and-true (eqb colour k) (uses (wayOf way) (requestOf x y) link) q in
-          let g : holds (circuit (liveOf b) i) link colour ≡ true = subst (λ (m : ℕ). holds (circuit (liveOf b) i) link m ≡ true) (sym (eqb-true colour k (p .0))) e in
-          let f : (uses (wayOf way) (requestOf x y) link && heldIn (liveOf b) link colour) ≡ true = true-and (uses (wayOf way) (requestOf x y) link) (heldIn (liveOf b) link colour) (p .1) (holds-held (liveOf b) link colour i h g) in
+          let g : holds (circuit (liveOf b) i) link colour ≡ true =
+          subst (λ (m : ℕ). holds (circuit (liveOf b) i) link m ≡ true) (sym (eqb-true colour k (p .0))) e in
+          let f : (uses (wayOf way) (requestOf x y) link && heldIn (liveOf b) link colour) ≡ true =
+          true-and (uses (wayOf way) (requestOf x y) link) (heldIn (liveOf b) link colour) (p .1)
+          (holds-held (liveOf b) link colour i h g) in
           sym f ∙ some-none (b .n) (λ j. uses (wayOf way) (requestOf x y) j && heldIn (liveOf b) j colour) free link l
 
   pub with-valid : (x y way colour : ℕ) → GoodGrant b x y way colour → Valid (withCircuit b (circuitOf (b .grants + 1) x y way colour))
@@ -82,19 +99,22 @@ module _ (b : Book) (v : Valid b) where
       let few : b .grants + 1 ≤ 65535 = omega (arith, g .serials) in
       subst Valid (sym (with-form b v c room))
       (valid-of (b .n) (b .w) (b .grants + 1) (liveOf b ++ (c ∷ [])) (v .nodes) (v .colours) few
-      (snoc-valid (b .n) (b .w) (b .grants) (liveOf b) c (v .circuits) room refl (g .arguments .ordered) (g .arguments .nodes) (g .arguments .colours) (new-apart (b .grants + 1) x y way colour (g .free))))
+      (snoc-valid (b .n) (b .w) (b .grants) (liveOf b) c (v .circuits) room refl (g .arguments .ordered) (g .arguments .nodes)
+      (g .arguments .colours) (new-apart (b .grants + 1) x y way colour (g .free))))
 
   pub removal-valid : (i : ℕ) → i < length (liveOf b) → Valid (withoutCircuit i b)
   removal-valid i h =
       subst Valid (sym (without-form b v i h))
-      (valid-of (b .n) (b .w) (b .grants) (without i (liveOf b)) (v .nodes) (v .colours) (v .few) (without-valid (b .n) (b .w) (b .grants) (liveOf b) i (v .circuits) h))
+      (valid-of (b .n) (b .w) (b .grants) (without i (liveOf b)) (v .nodes) (v .colours) (v .few)
+      (without-valid (b .n) (b .w) (b .grants) (liveOf b) i (v .circuits) h))
 
   -- the operations
   pub grant-valid : (x y way colour : ℕ) → Valid (granted b x y way colour .book)
   unfolding granted
   grant-valid x y way colour = go (grantVerdict b x y way colour) (good-grant b x y way colour)
     where
-      go : (t : Verdict) → (t ≡ verdict.Allowed → GoodGrant b x y way colour) → Valid (grantUnless t b (circuitOf (b .grants + 1) x y way colour) .book)
+      go : (t : Verdict) → (t ≡ verdict.Allowed → GoodGrant b x y way colour)
+          → Valid (grantUnless t b (circuitOf (b .grants + 1) x y way colour) .book)
       go verdict.Allowed g = with-valid x y way colour (g refl)
       go (verdict.Refused r) g = v
 
@@ -107,4 +127,9 @@ module _ (b : Book) (v : Valid b) where
       go Missing f = v
 
 pub keeps-valid : KeepsValid
-keeps-valid = record { opening = λ n w e. subst Valid (sym (opened-book n w e)) (opened-valid n w e); granting = grant-valid; removing = remove-valid }
+keeps-valid = record {
+  opening = λ n w e. subst Valid (sym (opened-book n w e)) (opened-valid n w e);
+  granting = grant-valid;
+  removing =
+      remove-valid;
+}

@@ -6,9 +6,11 @@ use mathlib.Core.List.{List, [], _++_}
 use lib.ListN.{length, take, replicate}
 use Rattle.ring.specs.declared.refusals.Verdict.{Verdict}
 use Rattle.ring.specs.declared.refusals.Verdict.the-variants as verdict
+use Rattle.ring.specs.Answers.{InNumbers, gives, refuses}
 use Rattle.ring.specs.Admission.{ringVerdict}
 use Rattle.book.specs.declared.circuits.Circuit.{Circuit}
 use Rattle.book.specs.declared.books.Book.{Book}
+use Rattle.book.specs.declared.books.OpenAnswer.{OpenAnswer}
 use Rattle.book.specs.declared.books.OpenAnswer.the-variants as answer
 use Rattle.book.specs.declared.books.Opened.{Opened}
 use Rattle.book.specs.Circuits.{vacant, circuit, holds}
@@ -31,10 +33,11 @@ pub record ValidCircuits (n w grants : ℕ) (cs : List Circuit) : Type 0 where
   pub rising : (i j : ℕ) → i < j → j < length cs → circuit cs i .serial < circuit cs j .serial
   -- "A request is two different nodes", of nodes 0 to n - 1, "a is the smaller and b the larger"
   pub ends : (i : ℕ) → i < length cs → (circuit cs i .a < circuit cs i .b) × (circuit cs i .b < n)
-  -- "Colours run from 0 to w - 1"
+  -- "Colours run from 0 to w−1"
   pub colours : (i : ℕ) → i < length cs → circuit cs i .colour < w
   -- no two circuits hold one colour on one link
-  pub apart : (i j : ℕ) → i < j → j < length cs → (link colour : ℕ) → link < n → holds (circuit cs i) link colour ≡ true → holds (circuit cs j) link colour ≡ false
+  pub apart : (i j : ℕ) → i < j → j < length cs → (link colour : ℕ) → link < n → holds (circuit cs i) link colour ≡ true
+      → holds (circuit cs j) link colour ≡ false
 
 -- a book that open or load gave, or that was reached from one by calls
 pub record Valid (b : Book) : Type 0 where
@@ -46,7 +49,7 @@ pub record Valid (b : Book) : Type 0 where
   pub form : b ≡ bookOf (b .n) (b .w) (b .grants) (liveOf b)
   pub circuits : ValidCircuits (b .n) (b .w) (b .grants) (liveOf b)
 
--- "Two books are the same if n, w, grants so far and live circuits agree, places aside."
+-- books "are the same if n, w, grants so far and live circuits agree"
 pub record Same (b d : Book) : Type 0 where
   pub nodes : b .n ≡ d .n
   pub colours : b .w ≡ d .w
@@ -57,11 +60,16 @@ pub record Same (b d : Book) : Type 0 where
 abbrev pub SameMeans : Type 0
 SameMeans = (b d : Book) → Valid b → Valid d → Same b d → b ≡ d
 
--- a new book, or none: a book of no nodes, which turns every grant down
+-- a new book, or none: a book of no nodes, which turns every call down
 abbrev pub openUnless : Verdict → ℕ → ℕ → Opened
 openUnless verdict.Allowed n w = record { answer = answer.Opened; book = bookOf n w 0 [] }
 openUnless (verdict.Refused r) n w = record { answer = answer.Refused r; book = bookOf 0 0 0 [] }
 
--- "Open. 1, 2."
+-- open: "1, 2"
 unfoldable pub opened : ℕ → ℕ → Opened
 opened n w = openUnless (ringVerdict n w) n w
+
+-- its answer in numbers
+abbrev pub openInNumbers : OpenAnswer → InNumbers
+openInNumbers answer.Opened = gives []
+openInNumbers (answer.Refused r) = refuses r

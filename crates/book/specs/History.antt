@@ -1,11 +1,12 @@
 -- What every history of calls from open comes to, said of the calls and their answers.
 use Prim.Native.Nat.{ℕ, zero, suc, _+_, _<_}
 use mathlib.Core.Path.{_≡_}
-use mathlib.Core.Bool.{Bool, true, false}
+use mathlib.Core.Bool.{Bool, true, false, _||_}
 use mathlib.Core.List.{List, [], _∷_}
 use mathlib.Core.Logic.{_⊎_, _↔_}
 use lib.Dec.{eqb}
 use lib.ListN.{length}
+use Rattle.ring.specs.declared.refusals.Refusal.the-variants.{SerialNeverGiven, SerialRemoved}
 use Rattle.ring.specs.declared.refusals.Verdict.the-variants as verdict
 use Rattle.ring.specs.Admission.{ringVerdict}
 use Rattle.ring.specs.Matchings.{NoTwice}
@@ -79,18 +80,36 @@ Gives (RemoveAnswered s a) serial c = ⊥
 Gives (ShowAnswered s a) serial c = ⊥
 Gives (HolderAnswered l k a) serial c = ⊥
 
+-- an accepted grant gave this serial
+abbrev pub gave : Event → ℕ → Bool
+gave (GrantAnswered x y way colour (grant.Granted given)) serial = eqb given serial
+gave (GrantAnswered x y way colour (grant.Refused r)) serial = false
+gave (RemoveAnswered s a) serial = false
+gave (ShowAnswered s a) serial = false
+gave (HolderAnswered l k a) serial = false
+
 -- an accepted removal named this serial
-abbrev pub takes : Event → ℕ → Bool
-takes (RemoveAnswered named remove.Removed) serial = eqb named serial
-takes (RemoveAnswered named (remove.Refused r)) serial = false
-takes (GrantAnswered x y way colour a) serial = false
-takes (ShowAnswered s a) serial = false
-takes (HolderAnswered l k a) serial = false
+abbrev pub removes : Event → ℕ → Bool
+removes (RemoveAnswered named remove.Removed) serial = eqb named serial
+removes (RemoveAnswered named (remove.Refused r)) serial = false
+removes (GrantAnswered x y way colour a) serial = false
+removes (ShowAnswered s a) serial = false
+removes (HolderAnswered l k a) serial = false
 
 -- some accepted grant of the history gave this serial to this circuit, and no later accepted removal named it
 abbrev pub Live : List Event → ℕ → Circuit → Type 0
 Live [] serial c = ⊥
-Live (latest ∷ earlier) serial c = Gives latest serial c ⊎ ((takes latest serial ≡ false) × Live earlier serial c)
+Live (latest ∷ earlier) serial c = Gives latest serial c ⊎ ((removes latest serial ≡ false) × Live earlier serial c)
+
+-- some accepted grant of the history gave this serial
+abbrev pub wasGiven : List Event → ℕ → Bool
+wasGiven [] serial = false
+wasGiven (latest ∷ earlier) serial = gave latest serial || wasGiven earlier serial
+
+-- some accepted removal of the history named this serial
+abbrev pub wasRemoved : List Event → ℕ → Bool
+wasRemoved [] serial = false
+wasRemoved (latest ∷ earlier) serial = removes latest serial || wasRemoved earlier serial
 
 -- the serials that the accepted grants gave, the latest first
 abbrev pub given : List Event → List ℕ
@@ -124,13 +143,27 @@ pub record Holding (h : List Event) (link colour serial : ℕ) : Type 0 where
 -- what is so of a book b after a history h of calls from the opening of a book with n nodes and w colours
 pub record AfterHistory (n w : ℕ) (h : List Event) (b : Book) : Type 0 where
   pub valid : Valid b
+  -- the ring stays, so that 4, 10 and 16 are tested against the n and w of the opening, and 13 against the number of accepted grants
+  pub nodes : b .n ≡ n
+  pub colours : b .w ≡ w
+  pub grants : b .grants ≡ length (given h)
   -- show gives a circuit exactly if an accepted grant gave it this serial and no later accepted removal named it
   pub shows : (serial : ℕ) (c : Circuit) → ((shown b serial ≡ show.Shown c) ↔ Live h serial c)
+  -- "14 serial 0 or never given": show and remove answer so exactly if no accepted grant gave the serial
+  pub unknown : (serial : ℕ) → ((shown b serial ≡ show.Refused SerialNeverGiven) ↔ (wasGiven h serial ≡ false))
+  pub unknown-removal : (serial : ℕ) → ((removed b serial .answer ≡ remove.Refused SerialNeverGiven) ↔ (wasGiven h serial ≡ false))
+  -- "15 removed": exactly if one gave it and an accepted removal named it
+  pub gone : (serial : ℕ) → ((shown b serial ≡ show.Refused SerialRemoved) ↔ ((wasGiven h serial ≡ true) × (wasRemoved h serial ≡ true)))
+  pub gone-removal : (serial : ℕ)
+      → ((removed b serial .answer ≡ remove.Refused SerialRemoved) ↔ ((wasGiven h serial ≡ true) × (wasRemoved h serial ≡ true)))
   -- a colour on a link is held exactly if a live circuit's way uses the link in that colour, and the holder is that circuit's order
-  pub held : (link colour : ℕ) → link < n → colour < w → (serial : ℕ) → ((heldBy b link colour ≡ holder.Held serial) ↔ Holding h link colour serial)
-  pub free : (link colour : ℕ) → link < n → colour < w → ((heldBy b link colour ≡ holder.Free) ↔ ((serial : ℕ) → Holding h link colour serial → ⊥))
+  pub held : (link colour : ℕ) → link < n → colour < w → (serial : ℕ)
+      → ((heldBy b link colour ≡ holder.Held serial) ↔ Holding h link colour serial)
+  pub free : (link colour : ℕ) → link < n → colour < w
+      → ((heldBy b link colour ≡ holder.Free) ↔ ((serial : ℕ) → Holding h link colour serial → ⊥))
   -- a removal frees every link of the circuit's way; of a seam way those below a, from link 0 on, as well as those from b to n - 1
-  pub frees : (serial : ℕ) (c : Circuit) → Live h serial c → (link : ℕ) → link < n → uses (c .way) (endsOf c) link ≡ true → heldBy (removed b serial .book) link (c .colour) ≡ holder.Free
+  pub frees : (serial : ℕ) (c : Circuit) → Live h serial c → (link : ℕ) → link < n → uses (c .way) (endsOf c) link ≡ true
+      → heldBy (removed b serial .book) link (c .colour) ≡ holder.Free
   -- "The live count is the accepted grants less the accepted removals."
   pub count : b .live + removals h ≡ length (given h)
   -- "Serials rise from 1 and are never given twice."
@@ -139,4 +172,5 @@ pub record AfterHistory (n w : ℕ) (h : List Event) (b : Book) : Type 0 where
 
 -- demand 2 of the book: it is so after every list of calls from open
 abbrev pub EveryHistory : Type 0
-EveryHistory = (n w : ℕ) → ringVerdict n w ≡ verdict.Allowed → (calls : List Call) → AfterHistory n w (history (opened n w .book) calls) (run (opened n w .book) calls)
+EveryHistory = (n w : ℕ) → ringVerdict n w ≡ verdict.Allowed → (calls : List Call)
+    → AfterHistory n w (history (opened n w .book) calls) (run (opened n w .book) calls)

@@ -1,9 +1,11 @@
--- The sentences of document 01 on the book, in its order.
+-- The rules on the book, in their order, and what is promised of it.
 pub mod Circuits
 pub mod Books
 pub mod Holders
 pub mod Grants
-pub mod Conflicts
 pub mod Orders
 pub mod Removals
+pub mod Places
+pub mod NoNodes
 pub mod History
+pub mod Internal

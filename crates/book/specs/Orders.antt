@@ -5,6 +5,8 @@ use mathlib.Core.List.{List, [], _∷_}
 use lib.Dec.{eqb, ltb}
 use Rattle.ring.specs.declared.refusals.Refusal.{Refusal}
 use Rattle.ring.specs.declared.refusals.Refusal.the-variants.{SerialNeverGiven, SerialRemoved}
+use Rattle.ring.specs.Fates.{wayNumber}
+use Rattle.ring.specs.Answers.{InNumbers, gives, refuses}
 use Rattle.book.specs.declared.circuits.Circuit.{Circuit}
 use Rattle.book.specs.declared.books.Book.{Book}
 use Rattle.book.specs.declared.orders.Lookup.{Lookup}
@@ -38,3 +40,8 @@ showFound Missing r = Refused r
 -- "Show gives a, b, way and colour."
 unfoldable pub shown : Book → ℕ → ShowAnswer
 shown b serial = showFound (lookup b serial) (missing b serial)
+
+-- its answer in numbers
+abbrev pub showInNumbers : ShowAnswer → InNumbers
+showInNumbers (Shown c) = gives (c .a ∷ c .b ∷ wayNumber (c .way) ∷ c .colour ∷ [])
+showInNumbers (Refused r) = refuses r

@@ -2,12 +2,13 @@
 use super::circuits::Circuit;
 use ring::Refusal;
 use ring::Ring;
+use ring::numbers::wide;
 use ring::rings::RingAnswer;
+ghost use mathlib.Core.List.{[]};
 ghost use mathlib.Core.Path.{_≡_};
 ghost use Prim.Native.Nat.{_≤_};
 ghost use lib.ListN.{length};
 ghost use Rattle.book.specs.Books.{liveOf, bookOf, opened};
-ghost use mathlib.Core.List.{[]};
 
 pub struct Book {
     pub n: u16,
@@ -31,15 +32,15 @@ impl Book {
     pub const PLACES: usize = 512;
 
     // A book with no circuit.
-    fn empty(n: u16, w: u16) -> Book
-        ensures { λ r. ⌜ r ≡ bookOf n w 0 [] ⌝ }
+    pub fn blank(n: u16, w: u16, grants: u16) -> Book
+        ensures { λ r. ⌜ r ≡ bookOf n w grants [] ⌝ }
     {
         let vacant = Circuit::vacant();
         let places = [vacant; 512];
         Book {
             n: n,
             w: w,
-            grants: 0,
+            grants: grants,
             live: 0,
             places: places,
         }
@@ -53,26 +54,20 @@ pub fn open(n: u16, w: u16) -> Opened
     let answer = Ring::new(n, w);
     match answer {
         RingAnswer::Made(_) => {
-            let book = Book::empty(n, w);
+            let book = Book::blank(n, w, 0);
             Opened {
                 answer: OpenAnswer::Opened,
                 book: book,
             }
         }
         RingAnswer::Refused(refusal) => {
-            let book = Book::empty(0, 0);
+            let book = Book::blank(0, 0, 0);
             Opened {
                 answer: OpenAnswer::Refused(refusal),
                 book: book,
             }
         }
     }
-}
-
-pub fn wide(x: u16) -> usize
-    ensures { λ r. ⌜ r ≡ x ⌝ }
-{
-    x as usize
 }
 
 // The number of live circuits: of any value of the struct, never more than there are places.

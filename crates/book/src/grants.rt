@@ -1,19 +1,23 @@
 // Granting a circuit.
 use super::books::Book;
 use super::books::live_count;
-use super::books::wide;
 use super::circuits::Circuit;
+use super::circuits::ends_of;
 use ring::Refusal;
 use ring::Request;
 use ring::Way;
+use ring::flags::both;
+use ring::numbers::wide;
 use ring::refusals::Verdict;
+use ring::refusals::or_else;
+use ring::refusals::refuse_if;
+use ring::requests::ends_verdict;
 use ring::ways::ways_share;
 ghost use mathlib.Core.Path.{_≡_};
-ghost use Prim.Native.Nat.{_<_, _+_};
-ghost use Rattle.ring.specs.declared.refusals.Verdict.the-variants.{Allowed};
-ghost use Rattle.book.specs.Books.{liveOf, Valid};
-ghost use Rattle.book.specs.Grants.{wayOf, argumentVerdict, roomVerdict, grantVerdict, withCircuit, granted};
-ghost use Rattle.book.specs.Conflicts.{conflicts, conflictIn};
+ghost use Rattle.book.specs.Books.{liveOf};
+ghost use Rattle.book.specs.Grants.{wayOf, circuitOf, argumentVerdict, roomVerdict, GrantPromise};
+ghost use Rattle.book.specs.Internal.Conflicts.{conflicts, conflictIn, verdictByEnds};
+ghost use Rattle.book.specs.Internal.Entering.{nextSerial, entered};
 
 pub enum GrantAnswer {
     Granted(u16),
@@ -37,11 +41,10 @@ fn conflicts(circuit: Circuit, way: Way, request: Request, colour: u16) -> bool
     ensures { λ r. ⌜ r ≡ conflicts circuit way request colour ⌝ }
 {
     let other = circuit.way;
-    let ends = Request {
-        a: circuit.a,
-        b: circuit.b,
-    };
-    circuit.colour == colour && ways_share(way, request, other, ends)
+    both(
+        circuit.colour == colour,
+        ways_share(way, request, other, ends_of(circuit)),
+    )
 }
 
 // Whether some live circuit does.
@@ -64,87 +67,89 @@ fn colour_held(book: Book, way: Way, request: Request, colour: u16) -> bool
 fn argument_verdict(n: u16, w: u16, x: u16, y: u16, way: u16, colour: u16) -> Verdict
     ensures { λ r. ⌜ r ≡ argumentVerdict n w x y way colour ⌝ }
 {
-    if n <= x || n <= y {
-        return Verdict::Refused(Refusal::CircuitEnd);
-    }
-    if x == y {
-        return Verdict::Refused(Refusal::CircuitEndsEqual);
-    }
-    if 1 < way {
-        return Verdict::Refused(Refusal::WayNumber);
-    }
-    if w <= colour {
-        return Verdict::Refused(Refusal::ColourNumber);
-    }
-    Verdict::Allowed
+    let ends = ends_verdict(n, x, y, Refusal::CircuitEnd, Refusal::CircuitEndsEqual);
+    let ways = refuse_if(1 < way, Refusal::WayNumber);
+    let colours = refuse_if(w <= colour, Refusal::ColourNumber);
+    or_else(ends, or_else(ways, colours))
 }
 
 // 12 or 13, if there is no place or no serial for one circuit more.
 fn room_verdict(live: u16, grants: u16) -> Verdict
     ensures { λ r. ⌜ r ≡ roomVerdict live grants ⌝ }
 {
-    if 512 <= live {
-        return Verdict::Refused(Refusal::BookFull);
-    }
-    if 65535 <= grants {
-        return Verdict::Refused(Refusal::SerialsUsedUp);
-    }
-    Verdict::Allowed
+    let places = refuse_if(512 <= live, Refusal::BookFull);
+    let serials = refuse_if(65535 <= grants, Refusal::SerialsUsedUp);
+    or_else(places, serials)
 }
 
-// The first of the grounds 4, 5 and 9 to 13 that is there; with none there is a place, and a serial, for the circuit.
+// The first of the grounds 4, 5 and 9 to 13 that is there, 11 by comparing ends.
 fn grant_verdict(book: Book, x: u16, y: u16, way: u16, colour: u16) -> Verdict
-    ensures { λ r. ⌜ (Valid book → r ≡ grantVerdict book x y way colour) × (r ≡ Allowed → (book .live < 512) × (book .grants < 65535)) ⌝ }
+    ensures { λ r. ⌜ r ≡ verdictByEnds book x y way colour ⌝ }
 {
-    let verdict = argument_verdict(book.n, book.w, x, y, way, colour);
-    if let Verdict::Refused(refusal) = verdict {
-        return Verdict::Refused(refusal);
-    }
-    let request = Request::new(x, y);
+    let arguments = argument_verdict(book.n, book.w, x, y, way, colour);
     let route = way_of(way);
-    if colour_held(book, route, request, colour) {
-        return Verdict::Refused(Refusal::ColourHeld);
-    }
-    room_verdict(book.live, book.grants)
+    let request = Request::new(x, y);
+    let held = refuse_if(
+        colour_held(book, route, request, colour),
+        Refusal::ColourHeld,
+    );
+    let room = room_verdict(book.live, book.grants);
+    or_else(arguments, or_else(held, room))
 }
 
-// The book with one circuit more, behind the live ones.
-fn enter(book: Book, circuit: Circuit) -> Book
-    requires { ⌜ (book .live < 512) × (book .grants < 65535) ⌝ }
-    ensures { λ r. ⌜ r ≡ withCircuit book circuit ⌝ }
+// The serial behind the last one, as far as 16 bits go.
+fn next_serial(grants: u16) -> u16
+    ensures { λ r. ⌜ r ≡ nextSerial grants ⌝ }
 {
-    let mut changed = book;
-    let place = wide(changed.live);
-    changed.places[place] = circuit;
-    changed.live = changed.live + 1;
-    changed.grants = changed.grants + 1;
-    changed
+    if grants < 65535 { grants + 1 } else { 65535 }
 }
 
-// The serial of the new circuit and the book with it, or the same book and a refusal.
-pub fn grant(book: Book, x: u16, y: u16, way: u16, colour: u16) -> Granted
-    ensures { λ r. ⌜ (Valid book → r ≡ granted book x y way colour) ⌝ }
+// The circuit of a grant.
+fn circuit_of(serial: u16, x: u16, y: u16, way: u16, colour: u16) -> Circuit
+    ensures { λ r. ⌜ r ≡ circuitOf serial x y way colour ⌝ }
 {
-    let verdict = grant_verdict(book, x, y, way, colour);
-    if let Verdict::Refused(refusal) = verdict {
-        return Granted {
-            answer: GrantAnswer::Refused(refusal),
-            book: book,
-        };
-    }
-    let serial = book.grants + 1;
     let request = Request::new(x, y);
     let route = way_of(way);
-    let circuit = Circuit {
+    Circuit {
         serial: serial,
         a: request.a,
         b: request.b,
         way: route,
         colour: colour,
-    };
-    let changed = enter(book, circuit);
-    Granted {
-        answer: GrantAnswer::Granted(serial),
-        book: changed,
+    }
+}
+
+// The book with one circuit more, behind the live ones, if there is a place for it.
+fn enter(book: Book, circuit: Circuit) -> Book
+    ensures { λ r. ⌜ r ≡ entered book circuit ⌝ }
+{
+    let live = book.live;
+    if 512 <= live {
+        return book;
+    }
+    let mut changed = book;
+    let place = wide(live);
+    changed.places[place] = circuit;
+    changed.live = live + 1;
+    changed.grants = next_serial(book.grants);
+    changed
+}
+
+// The serial of the new circuit and the book with it, or the same book and a refusal.
+pub fn grant(book: Book, x: u16, y: u16, way: u16, colour: u16) -> Granted
+    ensures { λ r. ⌜ GrantPromise book x y way colour r ⌝ }
+{
+    let serial = next_serial(book.grants);
+    let changed = enter(book, circuit_of(serial, x, y, way, colour));
+    let verdict = grant_verdict(book, x, y, way, colour);
+    match verdict {
+        Verdict::Allowed => Granted {
+            answer: GrantAnswer::Granted(serial),
+            book: changed,
+        },
+        Verdict::Refused(refusal) => Granted {
+            answer: GrantAnswer::Refused(refusal),
+            book: book,
+        },
     }
 }

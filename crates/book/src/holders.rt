@@ -4,10 +4,14 @@ use super::books::live_count;
 use super::circuits::Circuit;
 use super::circuits::holds;
 use ring::Refusal;
+use ring::refusals::Verdict;
+use ring::refusals::or_else;
+use ring::refusals::refuse_if;
 ghost use mathlib.Core.Path.{_≡_};
 ghost use Prim.Native.Nat.{_≤_};
 ghost use lib.ListN.{take};
-ghost use Rattle.book.specs.Holders.{holderPlace, heldBy};
+ghost use Rattle.book.specs.Holders.{heldBy};
+ghost use Rattle.book.specs.Internal.Places.{holderPlace};
 
 pub enum HolderAnswer {
     Free,
@@ -42,11 +46,11 @@ fn holder_search(places: [Circuit; 512], live: usize, link: u16, colour: u16) ->
 pub fn holder(book: Book, link: u16, colour: u16) -> HolderAnswer
     ensures { λ r. ⌜ r ≡ heldBy book link colour ⌝ }
 {
-    if book.n <= link {
-        return HolderAnswer::Refused(Refusal::LinkNumber);
-    }
-    if book.w <= colour {
-        return HolderAnswer::Refused(Refusal::ColourNumber);
+    let links = refuse_if(book.n <= link, Refusal::LinkNumber);
+    let colours = refuse_if(book.w <= colour, Refusal::ColourNumber);
+    let verdict = or_else(links, colours);
+    if let Verdict::Refused(refusal) = verdict {
+        return HolderAnswer::Refused(refusal);
     }
     let live = live_count(book);
     let places = book.places;

@@ -3,6 +3,7 @@ use super::books::Book;
 use super::books::live_count;
 use super::circuits::Circuit;
 use ring::Refusal;
+use ring::flags::either;
 ghost use mathlib.Core.Path.{_≡_};
 ghost use Rattle.book.specs.Books.{liveOf};
 ghost use Rattle.book.specs.Orders.{neverGiven, lookupIn, lookup, missing, shown};
@@ -22,7 +23,7 @@ pub enum ShowAnswer {
 fn never_given(grants: u16, serial: u16) -> bool
     ensures { λ r. ⌜ r ≡ neverGiven grants serial ⌝ }
 {
-    serial == 0 || grants < serial
+    either(serial == 0, grants < serial)
 }
 
 // The first live circuit of that serial.

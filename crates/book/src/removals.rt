@@ -6,6 +6,7 @@ use super::orders::Lookup;
 use super::orders::look_up;
 use super::orders::missing;
 use ring::Refusal;
+use ring::numbers::narrow;
 ghost use mathlib.Core.Path.{_≡_};
 ghost use Prim.Native.Nat.{_<_};
 ghost use lib.ListN.{length};
@@ -20,13 +21,6 @@ pub enum RemoveAnswer {
 pub struct Removed {
     pub answer: RemoveAnswer,
     pub book: Book,
-}
-
-fn narrow(x: usize) -> u16
-    requires { ⌜ x < 65536 ⌝ }
-    ensures { λ r. ⌜ r ≡ x ⌝ }
-{
-    x as u16
 }
 
 // The book without the circuit at a live place: the later ones move down by one, and the last place falls vacant.

@@ -1,70 +1,98 @@
 -- Cases T1 to T6: the chain parts by computation, the match counts by a matching of that size and a bound.
-use Prim.Native.Nat.{ℕ, zero, suc, _*_, _<_, min}
+use Prim.Native.Nat.{ℕ, zero, suc, _*_, _≤_, _<_, min}
 use mathlib.Core.Path.{_≡_, refl, sym, ap, _∙_}
-use mathlib.Core.Bool.{true}
-use mathlib.Core.List.{List, [], _∷_}
+use mathlib.Core.Bool.{true, xor}
+use mathlib.Core.List.{List, [], _∷_, map}
 use native.Mathlib.Omega.{arith}
 use lib.Dec.{ltb}
 use lib.ListN.{length, replicate}
 use Rattle.ring.specs.declared.fates.Fate.the-variants.{Blocked, Served}
 use Rattle.ring.specs.declared.ways.Way.the-variants.{Plain, Seam}
 use Rattle.ring.specs.Requests.{request, requestsOf}
-use Rattle.ring.specs.Plans.{served}
+use Rattle.ring.specs.Ways.{uses, someLink, shareLink}
+use Rattle.ring.specs.Fates.{fateOf, fateNumber}
+use Rattle.ring.specs.Plans.{served, Feasible}
 use Rattle.ring.specs.Chords.{inside, shareEnd, crosses, compatible}
 use Rattle.ring.specs.Matchings.{Pair, IsMatching, IsMaximum}
+use Rattle.ring.specs.Routing.{firstWay, secondWay}
+use Rattle.ring.specs.Admission.{ringVerdict, endsVerdict, requestVerdicts, countVerdict, listVerdict, callVerdict}
+use Rattle.ring.proofs.AdmissionLaws.{ring-allowed}
+use Rattle.ring.proofs.Cases.{impossible}
 use Rattle.chain.specs.Order.{order}
 use Rattle.chain.specs.Rule.{pick}
 use Rattle.chain.specs.ChainPart.{latestAfter, chainFrom, chainPart}
+use Rattle.planner.specs.declared.answers.Part.the-variants as part
 use Rattle.planner.specs.PairPart.{pairPart, ByLower}
-use Rattle.planner.specs.Plan.{better}
+use Rattle.planner.specs.Plan.{better, planOf}
 use Rattle.planner.specs.Ceiling.{MatchBound}
 use Rattle.planner.proofs.PlanLaws.{plan-pair}
 use Rattle.planner.proofs.MateLaws.{matching-size}
-use Rattle.ring.specs.Ways.{uses, someLink, shareLink}
-use Rattle.ring.specs.Fates.{fateOf, fateNumber}
-use Rattle.ring.specs.Routing.{firstWay, secondWay}
-use Rattle.ring.proofs.Cases.{impossible}
-use Rattle.chain.proofs.Cases.{t2-fates, t4-fates}
-use Rattle.ring.specs.Admission.{ringVerdict, requestVerdict, requestVerdicts, listVerdict, callVerdict}
-use Rattle.checker.specs.Check.{firstGround, numberVerdict, numberVerdicts, conflicting, pairVerdict, laterVerdict, pairVerdicts, tableAnswer, checkAnswer}
+use Rattle.checker.specs.Check.{firstGround, numberVerdict, numberVerdicts, conflicting, pairVerdict, laterVerdict, pairVerdicts}
+use Rattle.checker.specs.Check.{tableAnswer, checkAnswer}
 use Rattle.checker.proofs.DecisionLaws.{checker-decides}
-use Rattle.cases.specs.Table.{line2, endsT1, T1, endsT2, T2, endsT3, T3, endsT4, T4, endsT5, T5, T6}
-use Rattle.cases.proofs.Sizes.{matching-if, Computed, size, paired, counts-are, chain-is-plan}
+use Rattle.cases.specs.Table.{Plans, line2, endsT1, planT1, threeServed, endsT4}
+use Rattle.cases.proofs.Sizes.{matching-if, Computed, size, paired, counts-are, chain-is-plan, case-plans}
 
 abbrev pairing : ℕ → ℕ → Pair
 pairing i j = record { first = i; second = j }
 
 -- T1: requests 0 and 1 share an end, and request 3 lies within request 2
-computed-t1 : Computed 8 1 (requestsOf endsT1) (Served Plain 0 ∷ Served Plain 0 ∷ Blocked ∷ Blocked ∷ []) (pairing 0 1 ∷ pairing 2 3 ∷ [])
-unfolding chainPart order pick compatible crosses shareEnd inside
-computed-t1 = record { chain = refl; matching = matching-if _ _ refl refl; bound = λ Q m. omega (arith, matching-size (requestsOf endsT1) Q m) }
-
-pub t1 : T1
-unfolding served checkAnswer tableAnswer numberVerdicts numberVerdict pairVerdicts laterVerdict pairVerdict conflicting firstGround callVerdict ringVerdict listVerdict requestVerdicts requestVerdict shareLink someLink uses fateOf
-t1 = record {
-  counts = λ P m l. counts-are _ _ _ _ _ computed-t1 P m;
-  fates = λ P m l. chain-is-plan _ _ _ _ _ computed-t1 P m (omega arith);
-  feasible = checker-decides 8 1 endsT1 (1 ∷ 1 ∷ 2 ∷ 0 ∷ []) refl .passed-feasible 3 refl;
-  serves = refl;
-  exactly = λ P m l. rw (chain-is-plan _ _ _ _ _ computed-t1 P m (omega arith)) refl;
+computed-t1 : Computed 8 1 (requestsOf endsT1) planT1 (pairing 0 1 ∷ pairing 2 3 ∷ [])
+unfolding chainPart order pick compatible crosses shareEnd inside xor
+computed-t1 = record {
+  chain = refl;
+  matching = matching-if _ _ refl refl;
+  bound =
+      λ Q m. omega (arith, matching-size (requestsOf endsT1) Q m);
 }
+
+pub plans-t1 : Plans 8 1 endsT1 (line2 2 2 2 part.Chain) planT1
+unfolding served ringVerdict countVerdict listVerdict requestVerdicts endsVerdict
+plans-t1 =
+    case-plans refl refl refl refl
+    (λ P m l. record { counted = counts-are _ _ _ _ _ computed-t1 P m; planned = chain-is-plan _ _ _ _ _ computed-t1 P m (omega arith) })
+
+pub feasible-t1 : Feasible 8 1 (requestsOf endsT1) threeServed
+unfolding served checkAnswer tableAnswer numberVerdicts numberVerdict pairVerdicts laterVerdict pairVerdict conflicting firstGround
+    callVerdict ringVerdict countVerdict listVerdict requestVerdicts endsVerdict shareLink someLink uses fateOf
+feasible-t1 = checker-decides 8 1 endsT1 (1 ∷ 1 ∷ 2 ∷ 0 ∷ []) refl .passed-feasible 3 refl
+
+pub exactly-t1 : (served threeServed ≡ 3) × (3 * served planT1 ≡ 2 * served threeServed)
+unfolding served
+exactly-t1 = (refl, refl)
+
+abbrev endsT2 : List ℕ
+endsT2 = 0 ∷ 2 ∷ 1 ∷ 3 ∷ 3 ∷ 5 ∷ 2 ∷ 6 ∷ []
 
 -- T2: requests 0 and 3 share an end, and so do requests 1 and 2
-computed-t2 : Computed 7 2 (requestsOf endsT2) (Served Plain 0 ∷ Served Plain 1 ∷ Served Plain 1 ∷ Served Plain 0 ∷ []) (pairing 0 3 ∷ pairing 1 2 ∷ [])
-unfolding compatible crosses shareEnd inside
-computed-t2 = record { chain = t2-fates; matching = matching-if _ _ refl refl; bound = λ Q m. omega (arith, matching-size (requestsOf endsT2) Q m) }
-
-pub t2 : T2
-unfolding served
-t2 = record {
-  counts = λ P m l. counts-are _ _ _ _ _ computed-t2 P m;
-  fates = λ P m l. chain-is-plan _ _ _ _ _ computed-t2 P m (omega arith);
+computed-t2 : Computed 7 2 (requestsOf endsT2) (Served Plain 0 ∷ Served Plain 1 ∷ Served Plain 1 ∷ Served Plain 0 ∷ [])
+    (pairing 0 3 ∷ pairing 1 2 ∷ [])
+unfolding chainPart order pick compatible crosses shareEnd inside xor
+computed-t2 = record {
+  chain = refl;
+  matching = matching-if _ _ refl refl;
+  bound =
+      λ Q m. omega (arith, matching-size (requestsOf endsT2) Q m);
 }
+
+pub plans-t2 : Plans 7 2 endsT2 (line2 4 2 4 part.Chain) (Served Plain 0 ∷ Served Plain 1 ∷ Served Plain 1 ∷ Served Plain 0 ∷ [])
+unfolding served ringVerdict countVerdict listVerdict requestVerdicts endsVerdict
+plans-t2 =
+    case-plans refl refl refl refl
+    (λ P m l. record { counted = counts-are _ _ _ _ _ computed-t2 P m; planned = chain-is-plan _ _ _ _ _ computed-t2 P m (omega arith) })
+
+abbrev endsT3 : List ℕ
+endsT3 = 0 ∷ 2 ∷ 2 ∷ 0 ∷ []
 
 -- T3: the two requests are one pair, in which the lower-numbered comes first
 computed-t3 : Computed 4 1 (requestsOf endsT3) (Served Plain 0 ∷ Blocked ∷ []) (pairing 0 1 ∷ [])
-unfolding chainPart order pick compatible crosses shareEnd inside
-computed-t3 = record { chain = refl; matching = matching-if _ _ refl refl; bound = λ Q m. omega (arith, matching-size (requestsOf endsT3) Q m) }
+unfolding chainPart order pick compatible crosses shareEnd inside xor
+computed-t3 = record {
+  chain = refl;
+  matching = matching-if _ _ refl refl;
+  bound =
+      λ Q m. omega (arith, matching-size (requestsOf endsT3) Q m);
+}
 
 only-pair : (P : List Pair) → IsMaximum (requestsOf endsT3) P → ByLower P → P ≡ pairing 0 1 ∷ []
 only-pair P maximum lower = go P (size _ _ _ _ _ computed-t3 P maximum) (maximum .matching) lower
@@ -82,17 +110,24 @@ fates-t3 : pairPart 4 1 (requestsOf endsT3) (pairing 0 1 ∷ []) ≡ Served Plai
 unfolding pairPart firstWay secondWay inside shareLink someLink uses
 fates-t3 = refl
 
-pub t3 : T3
-unfolding served fateNumber
-t3 = record {
-  counts = λ P m l. counts-are _ _ _ _ _ computed-t3 P m;
-  fates = λ P m l. plan-pair 4 1 _ P (rw (computed-t3 .chain, paired _ _ _ _ _ computed-t3 P m) (omega arith)) ∙ rw (only-pair P m l) fates-t3;
-  numbers = refl;
-}
+plan-t3 : (P : List Pair) → IsMaximum (requestsOf endsT3) P → ByLower P
+    → planOf 4 1 (requestsOf endsT3) P ≡ Served Plain 0 ∷ Served Seam 0 ∷ []
+unfolding served
+plan-t3 P m l = plan-pair 4 1 _ P (rw (computed-t3 .chain, paired _ _ _ _ _ computed-t3 P m) (omega arith)) ∙ rw (only-pair P m l) fates-t3
+
+pub plans-t3 : Plans 4 1 endsT3 (line2 1 1 2 part.Pair) (Served Plain 0 ∷ Served Seam 0 ∷ [])
+unfolding served ringVerdict countVerdict listVerdict requestVerdicts endsVerdict
+plans-t3 =
+    case-plans refl refl refl refl
+    (λ P m l. record { counted = counts-are _ _ _ _ _ computed-t3 P m; planned = plan-t3 P m l })
+
+pub numbers-t3 : map fateNumber (Served Plain 0 ∷ Served Seam 0 ∷ []) ≡ 1 ∷ 2 ∷ []
+unfolding fateNumber
+numbers-t3 = refl
 
 -- T4: the two requests cross, and no request is a pair with itself
 crossing-t4 : (i j : ℕ) → i < 2 → j < 2 → compatible (request (requestsOf endsT4) i) (request (requestsOf endsT4) j) ≡ true → i ≡ j
-unfolding compatible crosses shareEnd inside
+unfolding compatible crosses shareEnd inside xor
 crossing-t4 zero zero h k e = refl
 crossing-t4 zero (suc zero) h k e = impossible (sym e)
 crossing-t4 zero (suc (suc j)) h k e = absurd (omega arith)
@@ -105,29 +140,37 @@ no-pair : MatchBound (requestsOf endsT4) 0
 no-pair [] matching = omega arith
 no-pair (p ∷ P) matching =
     let numbers = matching .numbers 0 (omega arith) in
-    absurd (matching .once 0 1 (omega arith) (omega arith) (crossing-t4 (p .first) (p .second) (numbers .0) (numbers .1) (matching .compatibles 0 (omega arith))))
+    absurd (matching .once 0 1 (omega arith) (omega arith)
+    (crossing-t4 (p .first) (p .second) (numbers .0) (numbers .1) (matching .compatibles 0 (omega arith))))
 
 computed-t4 : Computed 4 1 (requestsOf endsT4) (Served Plain 0 ∷ Blocked ∷ []) []
-computed-t4 = record { chain = t4-fates; matching = matching-if _ _ refl refl; bound = no-pair }
+unfolding chainPart order pick
+computed-t4 = record { chain = refl; matching = matching-if _ _ refl refl; bound = no-pair }
 
-pub t4 : T4
-unfolding served
-t4 = record {
-  counts = λ P m l. counts-are _ _ _ _ _ computed-t4 P m;
-  fates = λ P m l. chain-is-plan _ _ _ _ _ computed-t4 P m (omega arith);
-}
+pub plans-t4 : Plans 4 1 endsT4 (line2 1 0 0 part.Chain) (Served Plain 0 ∷ Blocked ∷ [])
+unfolding served ringVerdict countVerdict listVerdict requestVerdicts endsVerdict
+plans-t4 =
+    case-plans refl refl refl refl
+    (λ P m l. record { counted = counts-are _ _ _ _ _ computed-t4 P m; planned = chain-is-plan _ _ _ _ _ computed-t4 P m (omega arith) })
+
+abbrev endsT5 : List ℕ
+endsT5 = 0 ∷ 1 ∷ 0 ∷ 1 ∷ 0 ∷ 1 ∷ []
 
 -- T5: three requests have one pair at most
 computed-t5 : Computed 3 2 (requestsOf endsT5) (Served Plain 0 ∷ Served Plain 1 ∷ Blocked ∷ []) (pairing 0 1 ∷ [])
-unfolding chainPart order pick compatible crosses shareEnd inside
-computed-t5 = record { chain = refl; matching = matching-if _ _ refl refl; bound = λ Q m. omega (arith, matching-size (requestsOf endsT5) Q m) }
-
-pub t5 : T5
-unfolding served
-t5 = record {
-  counts = λ P m l. counts-are _ _ _ _ _ computed-t5 P m;
-  fates = λ P m l. chain-is-plan _ _ _ _ _ computed-t5 P m (omega arith);
+unfolding chainPart order pick compatible crosses shareEnd inside xor
+computed-t5 = record {
+  chain = refl;
+  matching = matching-if _ _ refl refl;
+  bound =
+      λ Q m. omega (arith, matching-size (requestsOf endsT5) Q m);
 }
+
+pub plans-t5 : Plans 3 2 endsT5 (line2 2 1 2 part.Chain) (Served Plain 0 ∷ Served Plain 1 ∷ Blocked ∷ [])
+unfolding served ringVerdict countVerdict listVerdict requestVerdicts endsVerdict
+plans-t5 =
+    case-plans refl refl refl refl
+    (λ P m l. record { counted = counts-are _ _ _ _ _ computed-t5 P m; planned = chain-is-plan _ _ _ _ _ computed-t5 P m (omega arith) })
 
 -- T6: whatever is taken, no request gets a fate
 no-fates : (numbers latest : List ℕ) → chainFrom [] numbers latest [] ≡ []
@@ -136,11 +179,19 @@ no-fates (i ∷ numbers) latest = no-fates numbers (latestAfter [] i latest)
 
 computed-t6 : (n w : ℕ) → Computed n w [] [] []
 unfolding chainPart
-computed-t6 n w = record { chain = no-fates (order n []) (replicate w 0); matching = matching-if _ _ refl refl; bound = λ Q m. omega (arith, matching-size [] Q m) }
-
-pub t6 : T6
-unfolding served
-t6 = record {
-  counts = λ n w P m l. let none : 2 * min 0 w ≡ 0 = omega arith in counts-are _ _ _ _ _ (computed-t6 n w) P m ∙ ap (λ k. line2 0 0 k (better (ltb 0 k))) none;
-  fates = λ n w P m l. chain-is-plan _ _ _ _ _ (computed-t6 n w) P m (omega arith);
+computed-t6 n w = record {
+  chain = no-fates (order n []) (replicate w 0);
+  matching = matching-if _ _ refl refl;
+  bound =
+      λ Q m. omega (arith, matching-size [] Q m);
 }
+
+pub plans-t6 : (n w : ℕ) → 3 ≤ n → n ≤ 256 → 1 ≤ w → w ≤ 128 → Plans n w [] (line2 0 0 0 part.Chain) []
+unfolding served countVerdict listVerdict requestVerdicts
+plans-t6 n w from to one most =
+    let none : 2 * min 0 w ≡ 0 = omega arith in
+    case-plans (ring-allowed n w (record { nodes-from = from; nodes-to = to; colours-from = one; colours-to = most })) refl refl refl
+    (λ P m l. record {
+      counted = counts-are _ _ _ _ _ (computed-t6 n w) P m ∙ ap (λ k. line2 0 0 k (better (ltb 0 k))) none;
+      planned = chain-is-plan _ _ _ _ _ (computed-t6 n w) P m (omega arith);
+    })

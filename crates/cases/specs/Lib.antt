@@ -1,2 +1,2 @@
--- The cases that document 01 wants proved.
+-- The cases of the rules that are proved.
 pub mod Table

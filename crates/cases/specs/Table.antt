@@ -1,7 +1,8 @@
--- The cases of document 01 that are marked with T, in its order: one record for each, each field a figure of the case.
-use Prim.Native.Nat.{ℕ, _*_}
+-- The cases of the rules that are marked with T, in their order: one record for each, each field a figure of the case.
+use Prim.Native.Nat.{ℕ, _*_, _≤_}
 use mathlib.Core.Path.{_≡_}
-use mathlib.Core.List.{List, [], _∷_, map}
+use mathlib.Core.List.{List, [], _∷_, _++_, map}
+use lib.ListN.{length, drop, replicate}
 use Rattle.ring.specs.declared.fates.Fate.{Fate}
 use Rattle.ring.specs.declared.fates.Fate.the-variants.{Blocked, Served}
 use Rattle.ring.specs.declared.ways.Way.the-variants.{Plain, Seam}
@@ -10,91 +11,95 @@ use Rattle.ring.specs.declared.refusals.Carried.the-variants.{Two}
 use Rattle.ring.specs.Requests.{requestsOf}
 use Rattle.ring.specs.Fates.{fateNumber}
 use Rattle.ring.specs.Plans.{served, Feasible}
-use Rattle.ring.specs.Matchings.{Pair, IsMaximum}
 use Rattle.ring.specs.Refusals.{numberOf, carriedBy}
 use Rattle.planner.specs.declared.answers.Part.the-variants as part
 use Rattle.planner.specs.declared.answers.Part.{Part}
 use Rattle.planner.specs.declared.answers.Summary.{Summary}
-use Rattle.planner.specs.PairPart.{ByLower}
-use Rattle.planner.specs.Plan.{planOf, summary}
+use Rattle.planner.specs.declared.answers.PlanAnswer.{PlanAnswer}
+use Rattle.planner.specs.declared.answers.PlanAnswer.the-variants.{Planned}
+use Rattle.planner.specs.Promise.{PlanPromise}
 use Rattle.checker.specs.declared.CheckAnswer.the-variants.{Passed, Refused}
 use Rattle.checker.specs.Check.{checkAnswer}
 use Rattle.book.specs.declared.grants.GrantAnswer.the-variants as grant
 use Rattle.book.specs.declared.removals.RemoveAnswer.the-variants as remove
 use Rattle.book.specs.declared.orders.ShowAnswer.the-variants as show
 use Rattle.book.specs.Books.{opened}
-use Rattle.stored.specs.Promises.{CaseT8, CaseT9}
 use Rattle.book.specs.History.{Grant, Remove, Show, GrantAnswered, RemoveAnswered, ShowAnswered, history}
+use Rattle.stored.specs.Blocks.{checkOf}
+use Rattle.stored.specs.Forms.{storedLength}
+use Rattle.texts.specs.Bytes.{bytes}
+use Rattle.plan_text.specs.Promise.{AnswerPromise}
+use Rattle.check_text.specs.Promise.{lineFor}
 
 -- line 2 of the planning program: "chain .. match .. pair .. used .."
 abbrev pub line2 : ℕ → ℕ → ℕ → Part → Summary
 line2 chain match pair used = record { chain = chain; matched = match; paired = pair; used = used }
 
--- the counts of the plan, whichever maximum matching is found
-abbrev pub Counts : ℕ → ℕ → List ℕ → Summary → Type 0
-Counts n w ends counts = (P : List Pair) → IsMaximum (requestsOf ends) P → ByLower P → summary n w (requestsOf ends) P ≡ counts
+-- whatever meets the promise of plan on a list, with a table long enough, gives these counts and writes these fates, and nothing behind
+-- them
+abbrev pub Plans : ℕ → ℕ → List ℕ → Summary → List Fate → Type 0
+Plans n w ends counts fates =
+    (before after : List ℕ) (result : PlanAnswer) → length fates ≤ length before → PlanPromise n w ends before after result
+    → (result ≡ Planned counts) × (after ≡ map fateNumber fates ++ drop (length fates) before)
 
--- the fates of the plan, whichever maximum matching is found
-abbrev pub Fates : ℕ → ℕ → List ℕ → List Fate → Type 0
-Fates n w ends fates = (P : List Pair) → IsMaximum (requestsOf ends) P → ByLower P → planOf n w (requestsOf ends) P ≡ fates
+-- whatever meets the promise of the planning program's text function on an input, with a buffer long enough, writes this output
+abbrev pub Prints : List ℕ → List ℕ → Type 0
+Prints input output =
+    (before after : List ℕ) (size : ℕ) → 8192 ≤ length before → AnswerPromise input before after size
+    → (size ≡ length output) × (after ≡ output ++ drop (length output) before)
 
--- "8 1 4", "0 3", "3 6", "6 0", "1 4"
+-- the list of T1
 abbrev pub endsT1 : List ℕ
 endsT1 = 0 ∷ 3 ∷ 3 ∷ 6 ∷ 6 ∷ 0 ∷ 1 ∷ 4 ∷ []
+
+-- our plan for it
+abbrev pub planT1 : List Fate
+planT1 = Served Plain 0 ∷ Served Plain 0 ∷ Blocked ∷ Blocked ∷ []
 
 -- requests 0, 1 and 2 served, the last of them by the seam
 abbrev pub threeServed : List Fate
 threeServed = Served Plain 0 ∷ Served Plain 0 ∷ Served Seam 0 ∷ Blocked ∷ []
 
--- "T1 above: a feasible plan serves 3 (requests 0, 1, 2), so the bound is met exactly."
+-- T1 n 8, w 1: "a feasible plan serves 3 (requests 0, 1, 2), so the bound is met exactly", and the program's input and output
 pub record T1 : Type 0 where
-  pub counts : Counts 8 1 endsT1 (line2 2 2 2 part.Chain)
-  pub fates : Fates 8 1 endsT1 (Served Plain 0 ∷ Served Plain 0 ∷ Blocked ∷ Blocked ∷ [])
+  pub plans : Plans 8 1 endsT1 (line2 2 2 2 part.Chain) planT1
   pub feasible : Feasible 8 1 (requestsOf endsT1) threeServed
   pub serves : served threeServed ≡ 3
-  pub exactly : (P : List Pair) → IsMaximum (requestsOf endsT1) P → ByLower P → 2 * served threeServed ≡ 3 * served (planOf 8 1 (requestsOf endsT1) P)
+  pub exactly : 3 * served planT1 ≡ 2 * served threeServed
+  pub prints : Prints (bytes "8 1 4\n0 3\n3 6\n6 0\n1 4\n")
+      (bytes "plan 8 1 4\nchain 2 match 2 pair 2 used chain\n0 P 0\n1 P 0\n2 B\n3 B\n")
 
--- "T2 n 7, w 2: {0,2} {1,3} {3,5} {2,6}: chain serves 4, colours 0, 1, 1, 0."
-abbrev pub endsT2 : List ℕ
-endsT2 = 0 ∷ 2 ∷ 1 ∷ 3 ∷ 3 ∷ 5 ∷ 2 ∷ 6 ∷ []
-
+-- T2 n 7, w 2: "chain serves 4, colours 0, 1, 1, 0"
 pub record T2 : Type 0 where
-  pub counts : Counts 7 2 endsT2 (line2 4 2 4 part.Chain)
-  pub fates : Fates 7 2 endsT2 (Served Plain 0 ∷ Served Plain 1 ∷ Served Plain 1 ∷ Served Plain 0 ∷ [])
+  pub plans : Plans 7 2 (0 ∷ 2 ∷ 1 ∷ 3 ∷ 3 ∷ 5 ∷ 2 ∷ 6 ∷ []) (line2 4 2 4 part.Chain)
+      (Served Plain 0 ∷ Served Plain 1 ∷ Served Plain 1 ∷ Served Plain 0 ∷ [])
 
--- "T3 n 4, w 1: {0,2} {2,0}: pair part, numbers 1 and 2."
-abbrev pub endsT3 : List ℕ
-endsT3 = 0 ∷ 2 ∷ 2 ∷ 0 ∷ []
-
+-- T3 n 4, w 1: "pair part, numbers 1 and 2"
 pub record T3 : Type 0 where
-  pub counts : Counts 4 1 endsT3 (line2 1 1 2 part.Pair)
-  pub fates : Fates 4 1 endsT3 (Served Plain 0 ∷ Served Seam 0 ∷ [])
+  pub plans : Plans 4 1 (0 ∷ 2 ∷ 2 ∷ 0 ∷ []) (line2 1 1 2 part.Pair) (Served Plain 0 ∷ Served Seam 0 ∷ [])
   pub numbers : map fateNumber (Served Plain 0 ∷ Served Seam 0 ∷ []) ≡ 1 ∷ 2 ∷ []
 
--- "T4 n 4, w 1: {0,2} {1,3}: chain 1, match 0."
+-- the list of T4 and T10
 abbrev pub endsT4 : List ℕ
 endsT4 = 0 ∷ 2 ∷ 1 ∷ 3 ∷ []
 
+-- T4 n 4, w 1: "chain 1, match 0"
 pub record T4 : Type 0 where
-  pub counts : Counts 4 1 endsT4 (line2 1 0 0 part.Chain)
-  pub fates : Fates 4 1 endsT4 (Served Plain 0 ∷ Blocked ∷ [])
+  pub plans : Plans 4 1 endsT4 (line2 1 0 0 part.Chain) (Served Plain 0 ∷ Blocked ∷ [])
 
--- "T5 n 3, w 2: {0,1} three times: chain 2, match 1, pair 2, chain used."
-abbrev pub endsT5 : List ℕ
-endsT5 = 0 ∷ 1 ∷ 0 ∷ 1 ∷ 0 ∷ 1 ∷ []
-
+-- T5 n 3, w 2: "{0,1} three times: chain 2, match 1, pair 2, chain used"
 pub record T5 : Type 0 where
-  pub counts : Counts 3 2 endsT5 (line2 2 1 2 part.Chain)
-  pub fates : Fates 3 2 endsT5 (Served Plain 0 ∷ Served Plain 1 ∷ Blocked ∷ [])
+  pub plans : Plans 3 2 (0 ∷ 1 ∷ 0 ∷ 1 ∷ 0 ∷ 1 ∷ []) (line2 2 1 2 part.Chain) (Served Plain 0 ∷ Served Plain 1 ∷ Blocked ∷ [])
 
--- "T6 no requests: all counts 0, chain used", on any ring
+-- T6 "no requests: all counts 0, chain used", on any ring and with any number of colours within the limits
 pub record T6 : Type 0 where
-  pub counts : (n w : ℕ) → Counts n w [] (line2 0 0 0 part.Chain)
-  pub fates : (n w : ℕ) → Fates n w [] []
+  pub plans : (n w : ℕ) → 3 ≤ n → n ≤ 256 → 1 ≤ w → w ≤ 128 → Plans n w [] (line2 0 0 0 part.Chain) []
 
--- "T7 n 4, w 1 book: grant {0,2} plain gives 1, {2,3} plain 2, {1,3} plain 11; remove 1; {0,2} seam 11, {0,1} plain 3; show 1 is 15, show 4 is 14.", the latest call first
+-- T7 n 4, w 1: the grants, the removal and the shows, the latest call first
 pub record T7 : Type 0 where
-  pub answers : history (opened 4 1 .book) (Show 4 ∷ Show 1 ∷ Grant 0 1 0 0 ∷ Grant 0 2 1 0 ∷ Remove 1 ∷ Grant 1 3 0 0 ∷ Grant 2 3 0 0 ∷ Grant 0 2 0 0 ∷ [])
+  pub answers : history
+      (opened 4 1 .book)
+      (Show 4 ∷ Show 1 ∷ Grant 0 1 0 0 ∷ Grant 0 2 1 0 ∷ Remove 1 ∷ Grant 1 3 0 0 ∷ Grant 2 3 0 0 ∷ Grant 0 2 0 0 ∷ [])
       ≡ ShowAnswered 4 (show.Refused SerialNeverGiven)
       ∷ ShowAnswered 1 (show.Refused SerialRemoved)
       ∷ GrantAnswered 0 1 0 0 (grant.Granted 3)
@@ -108,12 +113,26 @@ pub record T7 : Type 0 where
   pub never-given : numberOf SerialNeverGiven ≡ 14
   pub gone : numberOf SerialRemoved ≡ 15
 
--- "T10 T4's list with numbers 1, 1: refused 8, requests 0 and 1; with 1, 0: passes, 1 served."
+-- T8 "a block zero but for byte 509, value 129: check 269"
+pub record T8 : Type 0 where
+  pub check : checkOf (replicate 509 0 ++ (129 ∷ 0 ∷ 0 ∷ [])) ≡ 269
+
+-- T9 "lengths: live 0 is 512; 1 and 63 are 1,024; 64 is 1,536; 512 is 5,120"
+pub record T9 : Type 0 where
+  pub none : storedLength 0 ≡ 512
+  pub one : storedLength 1 ≡ 1024
+  pub block : storedLength 63 ≡ 1024
+  pub more : storedLength 64 ≡ 1536
+  pub all : storedLength 512 ≡ 5120
+
+-- T10 "T4's list with numbers 1, 1: refused 8, requests 0 and 1; with 1, 0: passes, 1 served", and what the check prints
 pub record T10 : Type 0 where
   pub refused : checkAnswer 4 1 endsT4 (1 ∷ 1 ∷ []) ≡ Refused (Conflict 0 1)
   pub refusal-number : numberOf (Conflict 0 1) ≡ 8
   pub refusal-requests : carriedBy (Conflict 0 1) ≡ Two 0 1
   pub passes : checkAnswer 4 1 endsT4 (1 ∷ 0 ∷ []) ≡ Passed 1
+  pub refusal-line : lineFor (bytes "4 1 2\n0 2\n1 3\n1\n1\n") ≡ bytes "refused 8 0 1\n"
+  pub passing-line : lineFor (bytes "4 1 2\n0 2\n1 3\n1\n0\n") ≡ bytes "served 1\n"
 
 -- the whole table
 pub record Table : Type 0 where
@@ -124,7 +143,6 @@ pub record Table : Type 0 where
   pub t5 : T5
   pub t6 : T6
   pub t7 : T7
-  -- T8 and T9 stand with the stored form
-  pub t8 : CaseT8
-  pub t9 : CaseT9
+  pub t8 : T8
+  pub t9 : T9
   pub t10 : T10

@@ -1,1 +1,1 @@
-// The cases of the scope that are proved: the table stands in specs/Table.antt, its proof in proofs/Table.antt. No code.
+// The cases of the rules that are proved: the table stands in specs/Table.antt, its proof in proofs/Table.antt. No code.

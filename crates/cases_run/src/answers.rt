@@ -10,12 +10,19 @@ use book::removals::RemoveAnswer;
 use book::remove;
 use checker::CheckAnswer;
 use checker::check;
+use matching::maxima::start;
+use neighbours::prefixes;
 use planner::Part;
 use planner::PlanAnswer;
 use planner::Summary;
 use planner::plan;
 use ring::Refusal;
+use ring::Ring;
 use ring::refusals::number;
+use ring::requests::call_answer;
+use ring::rings::RingAnswer;
+ghost use Prim.Native.Nat.{_≤_};
+ghost use Rattle.ring.specs.Requests.{requestsOf, ValidRequests};
 
 pub fn write(text: &[u8]) {
     io::write_all(1, text);
@@ -75,6 +82,27 @@ pub fn show_plan(n: u16, w: u16, ends: &[u16], table: &mut [u16]) {
             write_table(table);
         }
         PlanAnswer::Refused(refusal) => write_refusal(refusal),
+    }
+}
+
+// How many pairs the matching has that the searches start from.
+fn write_start(ring: Ring, ends: &[u16])
+    requires { ⌜ (ring .nodes ≤ 256) × ValidRequests (ring .nodes) (requestsOf (now ends)) ⌝ }
+{
+    let none = [0u64; 8];
+    let mut sets = [none; 257];
+    prefixes(ends, &mut sets);
+    let first = start(ends, &sets, ends.len() / 2);
+    write_call(b"start ", ring.nodes, ring.colours, ends.len() / 2);
+    io::print_decimal(1, first.size as u64);
+    write(b"\n");
+}
+
+pub fn show_start(n: u16, w: u16, ends: &[u16]) {
+    let admitted = call_answer(n, w, ends, ends.len() / 2);
+    match admitted {
+        RingAnswer::Made(ring) => write_start(ring, ends),
+        RingAnswer::Refused(refusal) => write_refusal(refusal),
     }
 }
 

@@ -9,18 +9,20 @@ use lib.Seq.{getD-take, length-take-le}
 use borrow.Author.Count.{below-more}
 use Rattle.chain.specs.declared.rule.Pick.{Pick}
 use Rattle.chain.specs.declared.rule.Pick.the-variants.{Colour, Nothing}
-use Rattle.chain.specs.Rule.{pick, BestFit, Chosen}
-use Rattle.chain.specs.Walk.{NoneWith, Greatest, FirstWith}
+use Rattle.chain.specs.Rule.{pick, BestFit, BestPick}
+use Rattle.chain.specs.Internal.Walk.{NoneWith, Greatest, FirstWith}
 use Rattle.chain.proofs.Basics.{lt-or-le}
 use Rattle.chain.proofs.Picking.{pick-is-chosen}
 
 -- one colour more, where fit is its latest end, or 0 if that is above a
-pub greatest-turn : (latest : List ℕ) (c a top fit top′ : ℕ) → (getD latest c 0 ≤ a → fit ≡ getD latest c 0) × (a < getD latest c 0 → fit ≡ 0) → top′ ≡ max top fit → Greatest latest c a top
+pub greatest-turn : (latest : List ℕ) (c a top fit top′ : ℕ)
+    → (getD latest c 0 ≤ a → fit ≡ getD latest c 0) × (a < getD latest c 0 → fit ≡ 0) → top′ ≡ max top fit → Greatest latest c a top
     → Greatest latest (c + 1) a top′
 greatest-turn latest c a top fit top′ ef et old =
     record {
       fits = ⊎-elim (λ over. omega (arith, ef .1 over)) (λ fits. omega (arith, ef .0 fits)) here;
-      most = below-more (λ d. getD latest d 0 ≤ a → getD latest d 0 ≤ top′) c (λ d l fits. omega (arith, old .most d l fits)) (λ fits. omega (arith, ef .0 fits));
+      most = below-more (λ d. getD latest d 0 ≤ a → getD latest d 0 ≤ top′) c (λ d l fits. omega (arith, old .most d l fits))
+          (λ fits. omega (arith, ef .0 fits));
       met = λ none. met none (lt-or-le top fit) here;
     }
   where
@@ -37,9 +39,10 @@ greatest-turn latest c a top fit top′ ef et old =
 -- no two picks are what the sentence says
 module _ (latest : List ℕ) (a : ℕ) where
   not-above : (c d : ℕ) → BestFit latest a c → BestFit latest a d → c ≤ d
-  not-above c d hc hd = ⊎-elim (λ l. omega (arith, hc .lowest d l (hd .fits), hd .greatest c (hc .inside) (hc .fits))) (λ l. l) (lt-or-le d c)
+  not-above c d hc hd =
+      ⊎-elim (λ l. omega (arith, hc .lowest d l (hd .fits), hd .greatest c (hc .inside) (hc .fits))) (λ l. l) (lt-or-le d c)
 
-  chosen-once : (p q : Pick) → Chosen latest a p → Chosen latest a q → p ≡ q
+  chosen-once : (p q : Pick) → BestPick latest a p → BestPick latest a q → p ≡ q
   chosen-once (Colour c) (Colour d) hc hd =
       let same : c ≡ d = omega (arith, not-above c d hc hd, not-above d c hd hc) in
       ap Colour same
@@ -51,7 +54,7 @@ module _ (latest : List ℕ) (w a top : ℕ) (room : w ≤ length latest) (g : G
   within : (d : ℕ) → d < length (take w latest) → d < w
   within d l = omega (arith, length-take-le w latest room)
 
-  first-chosen : (p : Pick) → FirstWith latest w top p → Chosen (take w latest) a p
+  first-chosen : (p : Pick) → FirstWith latest w top p → BestPick (take w latest) a p
   first-chosen (Colour c) f =
       let here = getD-take w latest c 0 (f .0) in
       record {
@@ -68,7 +71,8 @@ module _ (latest : List ℕ) (w a top : ℕ) (room : w ≤ length latest) (g : G
       }
   first-chosen Nothing none = λ d l.
       let there = getD-take w latest d 0 (within d l) in
-      ⊎-elim (λ over. omega arith) (λ fits. absurd (none d (within d l) (omega (arith, g .met none, g .most d (within d l) fits)))) (lt-or-le a (getD latest d 0))
+      ⊎-elim (λ over. omega arith) (λ fits. absurd (none d (within d l) (omega (arith, g .met none, g .most d (within d l) fits))))
+      (lt-or-le a (getD latest d 0))
 
   -- what the loops find is the pick
   pub first-is-pick : (p : Pick) → FirstWith latest w top p → p ≡ pick (take w latest) a

@@ -1,4 +1,5 @@
--- The chain part is feasible, keeps off the seam, and serves the most of all such plans: the interval theorem, read on the ring. Assumes nothing.
+-- The chain part is feasible, keeps off the seam, and serves the most of all such plans: the interval theorem, read on the ring. Assumes
+-- nothing.
 use Prim.Native.Nat.{ℕ, zero, suc, _-_, _≤_, _<_, max}
 use mathlib.Core.Path.{_≡_, refl, sym, ap, _∙_}
 use mathlib.Core.Logic.{_⊎_, inl, inr, ⊎-elim, _≢_}
@@ -15,7 +16,7 @@ use Rattle.ring.specs.Requests.{request, ValidRequests}
 use Rattle.ring.specs.Plans.{fate, served, Feasible, KeepsOff}
 use Rattle.ring.proofs.Cases.{impossible}
 use Rattle.ring.proofs.Counting.{sum}
-use Rattle.ring.proofs.PlanLaws.{served-count}
+use Rattle.ring.proofs.PlanLaws.{served-count, served-in}
 use Rattle.ring.proofs.WayLaws.{seam-uses-last, plain-avoids-last}
 use Rattle.chain.specs.declared.rule.Pick.the-variants.{Colour, Nothing}
 use Rattle.chain.specs.Order.{order}
@@ -26,19 +27,14 @@ use Rattle.chain.proofs.PlainLinks.{plain-apart, apart-plain}
 use Rattle.chain.proofs.Intervals.{interval, Sorted, count, Colouring, picks, BestColouring}
 use Rattle.chain.proofs.IntervalsFeasible.{coloured-in, best-fit-is-optimal}
 use Rattle.chain.proofs.Orders.{Follows, follows-order, order-counts, order-is-taken}
-use Rattle.chain.proofs.ChainPlans.{intervalOf, along, colourOf, pickBy, gotBy, along-sorted, count-sum, length-chain, chain-picks, TakenAt, chain-gives, all-blocked}
+use Rattle.chain.proofs.ChainPlans.{intervalOf, along, colourOf, pickBy, gotBy, along-sorted, count-sum, length-chain, chain-picks}
+use Rattle.chain.proofs.ChainPlans.{TakenAt, chain-gives, all-blocked}
 
 -- an entry of a mapped list
 at-map : {A : Type 0} {B : Type 0} (f : A → B) (l : List A) (k : ℕ) (d : A) (d′ : B) → k < length l → getD (map f l) k d′ ≡ f (getD l k d)
 at-map f [] k d d′ h = absurd (not-suc-le-zero h)
 at-map f (x ∷ l) zero d d′ h = refl
 at-map f (x ∷ l) (suc k) d d′ h = at-map f l k d d′ (le-of-suc-le-suc h)
-
--- a served request is one of the plan's
-served-in : (F : List Fate) (i c : ℕ) (u : Way) → fate F i ≡ Served u c → i < length F
-served-in [] i c u e = let z : _≡_ {A = ℕ} 0 1 = cc in absurd (omega arith)
-served-in (f ∷ F) zero c u e = omega arith
-served-in (f ∷ F) (suc i) c u e = omega (arith, served-in F i c u e)
 
 wayOf : Fate → Way
 wayOf Blocked = Plain
@@ -81,7 +77,12 @@ module _ (n w : ℕ) (R : List Request) (valid : ValidRequests n R) where
   in-list k h = order-is-taken n R valid .numbers k h
 
   place-taken : (i c : ℕ) (t : TakenAt R numbers (replicate w 0) i c) → t .place < length numbers
-  place-taken i c t = omega (arith, coloured-in (picks (along R numbers) (replicate w 0)) (t .place) c (t .picked), best .colouring .each, length-map numbers (intervalOf R))
+  place-taken i c t = omega (
+    arith,
+    coloured-in (picks (along R numbers) (replicate w 0)) (t .place) c (t .picked),
+    best .colouring .each,
+    length-map numbers (intervalOf R),
+  )
 
   -- what a plan serves is what it serves along the order
   served-along : (F : List Fate) → length F ≡ length R → served F ≡ count (map (pickBy F) numbers)
@@ -92,12 +93,14 @@ module _ (n w : ℕ) (R : List Request) (valid : ValidRequests n R) where
 
   goes-plain : (F : List Fate) → length F ≡ length R → KeepsOff (n - 1) R F → (i c : ℕ) (u : Way) → fate F i ≡ Served u c → u ≡ Plain
   goes-plain F each off i c Plain e = refl
-  goes-plain F each off i c Seam e = impossible (sym (seam-uses-last n (request R i) (valid .nodes i (omega (arith, served-in F i c Seam e)))) ∙ off i c Seam e)
+  goes-plain F each off i c Seam e =
+      impossible (sym (seam-uses-last n (request R i) (valid .nodes i (omega (arith, served-in F i c Seam e)))) ∙ off i c Seam e)
 
   place-in : (F : List Fate) (k c : ℕ) → getD (map (pickBy F) numbers) k Nothing ≡ Colour c → k < length numbers
   place-in F k c e = omega (arith, coloured-in (map (pickBy F) numbers) k c e, length-map numbers (pickBy F))
 
-  plain-at : (F : List Fate) → length F ≡ length R → KeepsOff (n - 1) R F → (k c : ℕ) → getD (map (pickBy F) numbers) k Nothing ≡ Colour c → fate F (getD numbers k 0) ≡ Served Plain c
+  plain-at : (F : List Fate) → length F ≡ length R → KeepsOff (n - 1) R F → (k c : ℕ) → getD (map (pickBy F) numbers) k Nothing ≡ Colour c
+      → fate F (getD numbers k 0) ≡ Served Plain c
   unfolding pickBy
   plain-at F each off k c e =
       let i = getD numbers k 0 in
@@ -118,10 +121,12 @@ module _ (n w : ℕ) (R : List Request) (valid : ValidRequests n R) where
             let s = request R (getD numbers k 0) in
             let ij : getD numbers j 0 < length R = in-list j hj in
             let ik : getD numbers k 0 < length R = in-list k hk in
-            let link : max (r .a) (s .a) < n = omega (arith, valid .ordered _ ij, valid .ordered _ ik, valid .nodes _ ij, valid .nodes _ ik) in
+            let link : max (r .a) (s .a) < n =
+            omega (arith, valid .ordered _ ij, valid .ordered _ ik, valid .nodes _ ij, valid .nodes _ ik) in
             rw (finish-at j hj, finish-at k hk)
             (apart-plain r s (valid .ordered _ ij) (valid .ordered _ ik)
-            (f .apart (getD numbers j 0) (getD numbers k 0) c Plain Plain (different j k d hj hk) (plain-at F (f .each) off j c ej) (plain-at F (f .each) off k c ek) (max (r .a) (s .a)) link));
+            (f .apart (getD numbers j 0) (getD numbers k 0) c Plain Plain (different j k d hj hk) (plain-at F (f .each) off j c ej)
+            (plain-at F (f .each) off k c ek) (max (r .a) (s .a)) link));
       }
 
   -- ---- the chain part
@@ -142,7 +147,8 @@ module _ (n w : ℕ) (R : List Request) (valid : ValidRequests n R) where
   unfolding chain chainPart numbers
   chain-taken i c u e = go (chain-gives R (order n R) (replicate w 0) (replicate (length R) Blocked) i c u e)
     where
-      go : (fate (replicate (length R) Blocked) i ≡ Served u c) ⊎ ((u ≡ Plain) × TakenAt R (order n R) (replicate w 0) i c) → (u ≡ Plain) × TakenAt R (order n R) (replicate w 0) i c
+      go : (fate (replicate (length R) Blocked) i ≡ Served u c) ⊎ ((u ≡ Plain) × TakenAt R (order n R) (replicate w 0) i c)
+          → (u ≡ Plain) × TakenAt R (order n R) (replicate w 0) i c
       go (inr t) = t
       go (inl q) = let z : _≡_ {A = ℕ} 0 1 = cc (all-blocked (length R) i) in absurd (omega arith)
 
@@ -158,7 +164,8 @@ module _ (n w : ℕ) (R : List Request) (valid : ValidRequests n R) where
             let hj = place-taken j c (tj .1) in
             let other : ti .1 .place ≢ tj .1 .place = λ q. d (sym (ti .1 .here) ∙ ap (λ (k : ℕ). getD numbers k 0) q ∙ tj .1 .here) in
             let gap = best .colouring .apart (ti .1 .place) (tj .1 .place) c other (ti .1 .picked) (tj .1 .picked) in
-            let gap′ : (request R i .b ≤ request R j .a) ⊎ (request R j .b ≤ request R i .a) = rw (finish-at (ti .1 .place) hi, finish-at (tj .1 .place) hj, ti .1 .here, tj .1 .here) at gap in
+            let gap′ : (request R i .b ≤ request R j .a) ⊎ (request R j .b ≤ request R i .a) =
+            rw (finish-at (ti .1 .place) hi, finish-at (tj .1 .place) hj, ti .1 .here, tj .1 .here) at gap in
             rw (ti .0, tj .0) (plain-apart (request R i) (request R j) gap′ link);
       }
 
@@ -167,7 +174,13 @@ module _ (n w : ℕ) (R : List Request) (valid : ValidRequests n R) where
       rw (chain-taken i c u e .0) (plain-avoids-last n (request R i) (valid .nodes i (omega (arith, served-in chain i c u e, chain-each))))
 
   chain-most : (G : List Fate) → Feasible n w R G → KeepsOff (n - 1) R G → served G ≤ served chain
-  chain-most G f off = omega (arith, served-along G (f .each), served-along chain chain-each, best .most (map (pickBy G) numbers) (plan-colouring G f off), ap count chain-along)
+  chain-most G f off = omega (
+    arith,
+    served-along G (f .each),
+    served-along chain chain-each,
+    best .most (map (pickBy G) numbers) (plan-colouring G f off),
+    ap count chain-along,
+  )
 
 -- the promise that the planner uses
 pub chain-is-optimal : ChainIsOptimal

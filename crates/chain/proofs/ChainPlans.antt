@@ -44,10 +44,12 @@ gotBy F i = bit (served? (fate F i))
 
 -- ---- the intervals along the order are sorted
 
-pub along-sorted : (n : ℕ) (R : List Request) → ValidRequests n R → (m e i : ℕ) (l : List ℕ) → m ≤ e → Follows R e i l → Sorted m (along R l)
+pub along-sorted : (n : ℕ) (R : List Request) → ValidRequests n R → (m e i : ℕ) (l : List ℕ) → m ≤ e → Follows R e i l
+    → Sorted m (along R l)
 unfolding Follows
 along-sorted n R valid m e i [] h f = tt
-along-sorted n R valid m e i (j ∷ l) h f = (omega (arith, f .1), valid .ordered j (f .0), along-sorted n R valid (request R j .b) (request R j .b) (j + 1) l (omega arith) (f .3))
+along-sorted n R valid m e i (j ∷ l) h f =
+    (omega (arith, f .1), valid .ordered j (f .0), along-sorted n R valid (request R j .b) (request R j .b) (j + 1) l (omega arith) (f .3))
 
 -- ---- what a plan serves, counted along numbers
 
@@ -64,27 +66,33 @@ count-sum F (i ∷ l) = omega (arith, got-served (fate F i), count-sum F l)
 
 pub length-chain : (R : List Request) (l latest : List ℕ) (F : List Fate) → length (chainFrom R l latest F) ≡ length F
 length-chain R [] latest F = refl
-length-chain R (i ∷ l) latest F = length-chain R l (latestAfter R i latest) (set F i (plainFate (pickFor R i latest))) ∙ length-set F i (plainFate (pickFor R i latest))
+length-chain R (i ∷ l) latest F = length-chain R l (latestAfter R i latest) (set F i (plainFate (pickFor R i latest)))
+    ∙ length-set F i (plainFate (pickFor R i latest))
 
 -- a request that is not taken keeps its fate
-kept : (R : List Request) (l latest : List ℕ) (F : List Fate) (j : ℕ) → ((k : ℕ) → k < length l → getD l k 0 ≢ j) → fate (chainFrom R l latest F) j ≡ fate F j
+kept : (R : List Request) (l latest : List ℕ) (F : List Fate) (j : ℕ) → ((k : ℕ) → k < length l → getD l k 0 ≢ j)
+    → fate (chainFrom R l latest F) j ≡ fate F j
 kept R [] latest F j h = refl
 kept R (i ∷ l) latest F j h =
-    kept R l (latestAfter R i latest) (set F i (plainFate (pickFor R i latest))) j (λ k b. h (suc k) (omega arith)) ∙ getD-set-other F i j (plainFate (pickFor R i latest)) Blocked (λ q. h 0 (omega arith) (sym q))
+    kept R l (latestAfter R i latest) (set F i (plainFate (pickFor R i latest))) j (λ k b. h (suc k) (omega arith))
+    ∙ getD-set-other F i j (plainFate (pickFor R i latest)) Blocked (λ q. h 0 (omega arith) (sym q))
 
 colour-plain : (p : Pick) → colourOf (plainFate p) ≡ p
 colour-plain (Colour c) = refl
 colour-plain Nothing = refl
 
 -- along the numbers taken, the run's colours are the rule's picks
-pub chain-picks : (R : List Request) (e i : ℕ) (l latest : List ℕ) (F : List Fate) → length F ≡ length R → Follows R e i l → map (pickBy (chainFrom R l latest F)) l ≡ picks (along R l) latest
+pub chain-picks : (R : List Request) (e i : ℕ) (l latest : List ℕ) (F : List Fate) → length F ≡ length R → Follows R e i l
+    → map (pickBy (chainFrom R l latest F)) l ≡ picks (along R l) latest
 unfolding pickBy Follows
 chain-picks R e i [] latest F h f = refl
 chain-picks R e i (j ∷ l) latest F h f =
     let p = pickFor R j latest in
     let F′ = set F j (plainFate p) in
-    let same = kept R l (latestAfter R j latest) F′ j (λ k b q. omega (arith, follows-at R (request R j .b) (j + 1) l k (f .3) b .2 (ap (λ (x : ℕ). request R x .b) (sym q)))) in
-    let first : colourOf (fate (chainFrom R l (latestAfter R j latest) F′) j) ≡ p = ap colourOf (same ∙ getD-set-same F j (plainFate p) Blocked (omega (arith, f .0))) ∙ colour-plain p in
+    let same = kept R l (latestAfter R j latest) F′ j
+    (λ k b q. omega (arith, follows-at R (request R j .b) (j + 1) l k (f .3) b .2 (ap (λ (x : ℕ). request R x .b) (sym q)))) in
+    let first : colourOf (fate (chainFrom R l (latestAfter R j latest) F′) j) ≡ p =
+    ap colourOf (same ∙ getD-set-same F j (plainFate p) Blocked (omega (arith, f .0))) ∙ colour-plain p in
     let rest = chain-picks R (request R j .b) (j + 1) l (latestAfter R j latest) F′ (length-set F j (plainFate p) ∙ h) (f .3) in
     cc
 
@@ -99,7 +107,8 @@ plain-served (Colour d) u c e = (cc, cc)
 plain-served Nothing u c e = let z : _≡_ {A = ℕ} 0 1 = cc in absurd (omega arith)
 
 -- a request is served as before, or because it was taken
-pub chain-gives : (R : List Request) (l latest : List ℕ) (F : List Fate) (i c : ℕ) (u : Way) → fate (chainFrom R l latest F) i ≡ Served u c → (fate F i ≡ Served u c) ⊎ ((u ≡ Plain) × TakenAt R l latest i c)
+pub chain-gives : (R : List Request) (l latest : List ℕ) (F : List Fate) (i c : ℕ) (u : Way) → fate (chainFrom R l latest F) i ≡ Served u c
+    → (fate F i ≡ Served u c) ⊎ ((u ≡ Plain) × TakenAt R l latest i c)
 chain-gives R [] latest F i c u e = inl e
 chain-gives R (j ∷ l) latest F i c u e = go (chain-gives R l (latestAfter R j latest) F′ i c u e) (ℕ-discrete i j) (lt-or-le j (length F))
   where
@@ -109,7 +118,8 @@ chain-gives R (j ∷ l) latest F i c u e = go (chain-gives R l (latestAfter R j 
     F′ : List Fate
     F′ = set F j (plainFate p)
 
-    go : (fate F′ i ≡ Served u c) ⊎ ((u ≡ Plain) × TakenAt R l (latestAfter R j latest) i c) → Dec (i ≡ j) → (j < length F) ⊎ (length F ≤ j) → (fate F i ≡ Served u c) ⊎ ((u ≡ Plain) × TakenAt R (j ∷ l) latest i c)
+    go : (fate F′ i ≡ Served u c) ⊎ ((u ≡ Plain) × TakenAt R l (latestAfter R j latest) i c) → Dec (i ≡ j) → (j < length F) ⊎ (length F ≤ j)
+        → (fate F i ≡ Served u c) ⊎ ((u ≡ Plain) × TakenAt R (j ∷ l) latest i c)
     go (inr t) d b = inr (t .0, record { place = suc (t .1 .place); here = t .1 .here; picked = t .1 .picked })
     go (inl q) (no n) b = inl (sym (getD-set-other F j i (plainFate p) Blocked n) ∙ q)
     go (inl q) (yes s) (inr out) = inl (ap (λ (G : List Fate). fate G i) (sym (set-out F j (plainFate p) out)) ∙ q)

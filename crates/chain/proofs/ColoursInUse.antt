@@ -9,8 +9,8 @@ use lib.ListN.{length, getD, set, take}
 use lib.Seq.{getD-take, length-take-le, getD-set-same, getD-set-other}
 use Rattle.chain.specs.declared.rule.Pick.{Pick}
 use Rattle.chain.specs.declared.rule.Pick.the-variants.{Colour, Nothing}
-use Rattle.chain.specs.Rule.{pick, after, BestFit, Chosen}
-use Rattle.chain.specs.Walk.{Greatest, FirstWith, InUse, usedAfter}
+use Rattle.chain.specs.Rule.{pick, withPick, BestFit, BestPick}
+use Rattle.chain.specs.Internal.Walk.{Greatest, FirstWith, InUse, usedAfter}
 use Rattle.chain.proofs.Basics.{lt-or-le}
 use Rattle.chain.proofs.BestTurns.{first-is-pick}
 
@@ -53,13 +53,18 @@ module _ (latest : List ℕ) (used w : ℕ) (I : InUse used w latest) where
           ⊎-elim
               (λ (over : used < c).
               let there = getD-take w latest used 0 (omega arith) in
-              omega (arith, I .rest used (omega arith), I .rest c (omega arith), h .lowest used over (omega (arith, I .rest used (omega arith)))))
+              omega (
+                arith,
+                I .rest used (omega arith),
+                I .rest c (omega arith),
+                h .lowest used over (omega (arith, I .rest used (omega arith))),
+              ))
               (λ l. l)
               (lt-or-le used c),
         )
 
     -- after a pick the colours in use still come first
-    pub in-use-after : (p : Pick) → Chosen (take w latest) a p → InUse (usedAfter used p) w (after latest p b)
+    pub in-use-after : (p : Pick) → BestPick (take w latest) a p → InUse (usedAfter used p) w (withPick latest p b)
     in-use-after (Colour c) h =
         let seen = pick-seen c h in
         record {

@@ -27,7 +27,8 @@ pub above-le : (end x : ℕ) → above end x ≤ 1
 above-le end x = ⊎-elim (λ h. omega (arith, above-one end x h)) (λ h. omega (arith, above-zero end x h)) (lt-or-le x end)
 
 above-falls : (end x y : ℕ) → x ≤ y → above end y ≤ above end x
-above-falls end x y l = ⊎-elim (λ h. omega (arith, above-one end x h, above-le end y)) (λ h. omega (arith, above-zero end y (omega arith))) (lt-or-le x end)
+above-falls end x y l =
+    ⊎-elim (λ h. omega (arith, above-one end x h, above-le end y)) (λ h. omega (arith, above-zero end y (omega arith))) (lt-or-le x end)
 
 -- how many of the ends are above x
 pub countAbove : List ℕ → ℕ → ℕ

@@ -6,7 +6,7 @@ use mathlib.Core.List.{List, [], _∷_}
 use lib.ListN.{length, getD, replicate}
 use Rattle.chain.specs.declared.rule.Pick.{Pick}
 use Rattle.chain.specs.declared.rule.Pick.the-variants.{Colour, Nothing}
-use Rattle.chain.specs.Rule.{pick, after}
+use Rattle.chain.specs.Rule.{pick, withPick}
 
 pub record Interval : Type 0 where
   pub start : ℕ
@@ -35,12 +35,13 @@ count (p ∷ P) = got p + count P
 pub record Colouring (w : ℕ) (X : List Interval) (P : List Pick) : Type 0 where
   pub each : length P ≡ length X
   pub colours : (k c : ℕ) → getD P k Nothing ≡ Colour c → c < w
-  pub apart : (j k c : ℕ) → j ≢ k → getD P j Nothing ≡ Colour c → getD P k Nothing ≡ Colour c → (interval X j .finish ≤ interval X k .start) ⊎ (interval X k .finish ≤ interval X j .start)
+  pub apart : (j k c : ℕ) → j ≢ k → getD P j Nothing ≡ Colour c → getD P k Nothing ≡ Colour c
+      → (interval X j .finish ≤ interval X k .start) ⊎ (interval X k .finish ≤ interval X j .start)
 
 -- the rule's picks, one interval after the other
 abbrev pub picks : List Interval → List ℕ → List Pick
 picks [] latest = []
-picks (v ∷ X) latest = pick latest (v .start) ∷ picks X (after latest (pick latest (v .start)) (v .finish))
+picks (v ∷ X) latest = pick latest (v .start) ∷ picks X (withPick latest (pick latest (v .start)) (v .finish))
 
 -- the rule gives a colouring, and no colouring in as many colours serves more intervals
 pub record BestColouring (w : ℕ) (X : List Interval) : Type 0 where
@@ -59,4 +60,5 @@ Allowed latest a Nothing = Unit {0}
 -- the picks, one for each interval, are allowed one after the other
 pub data Replay : List Interval → List Pick → List ℕ → Type 0 where
   done : {latest : List ℕ} → Replay [] [] latest
-  next : {v : Interval} {p : Pick} {X : List Interval} {P : List Pick} {latest : List ℕ} → Allowed latest (v .start) p → Replay X P (after latest p (v .finish)) → Replay (v ∷ X) (p ∷ P) latest
+  next : {v : Interval} {p : Pick} {X : List Interval} {P : List Pick} {latest : List ℕ} → Allowed latest (v .start) p
+      → Replay X P (withPick latest p (v .finish)) → Replay (v ∷ X) (p ∷ P) latest

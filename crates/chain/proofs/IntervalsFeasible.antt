@@ -10,7 +10,7 @@ use lib.ListN.{length, getD, set, replicate, length-set, length-replicate, getD-
 use lib.Seq.{getD-set-same, getD-set-other}
 use Rattle.chain.specs.declared.rule.Pick.{Pick}
 use Rattle.chain.specs.declared.rule.Pick.the-variants.{Colour, Nothing}
-use Rattle.chain.specs.Rule.{pick, after, Chosen}
+use Rattle.chain.specs.Rule.{pick, withPick, BestPick}
 use Rattle.chain.proofs.Basics.{lt-or-le}
 use Rattle.chain.proofs.Picking.{pick-is-chosen}
 use Rattle.chain.proofs.Intervals.{Interval, interval, Sorted, Colouring, picks, BestFitIsOptimal, Allowed, Replay, done, next}
@@ -37,15 +37,17 @@ Free : List ℕ → List Interval → List Pick → Type 0
 Free latest X P = (k c : ℕ) → getD P k Nothing ≡ Colour c → (c < length latest) × (getD latest c 0 ≤ interval X k .start)
 
 Apart : List Interval → List Pick → Type 0
-Apart X P = (j k c : ℕ) → j ≢ k → getD P j Nothing ≡ Colour c → getD P k Nothing ≡ Colour c → (interval X j .finish ≤ interval X k .start) ⊎ (interval X k .finish ≤ interval X j .start)
+Apart X P = (j k c : ℕ) → j ≢ k → getD P j Nothing ≡ Colour c → getD P k Nothing ≡ Colour c
+    → (interval X j .finish ≤ interval X k .start) ⊎ (interval X k .finish ≤ interval X j .start)
 
-allowed : (latest : List ℕ) (v : Interval) (X : List Interval) (p : Pick) (P : List Pick) → Free latest (v ∷ X) (p ∷ P) → Allowed latest (v .start) p
+allowed : (latest : List ℕ) (v : Interval) (X : List Interval) (p : Pick) (P : List Pick) → Free latest (v ∷ X) (p ∷ P)
+    → Allowed latest (v .start) p
 unfolding Free
 allowed latest v X (Colour c) P free = free 0 c refl
 allowed latest v X Nothing P free = tt
 
 module _ (m : ℕ) (v : Interval) (X : List Interval) (P : List Pick) (so : Sorted m (v ∷ X)) (each : length P ≡ length X) where
-  still-free : (latest : List ℕ) (p : Pick) → Free latest (v ∷ X) (p ∷ P) → Apart (v ∷ X) (p ∷ P) → Free (after latest p (v .finish)) X P
+  still-free : (latest : List ℕ) (p : Pick) → Free latest (v ∷ X) (p ∷ P) → Apart (v ∷ X) (p ∷ P) → Free (withPick latest p (v .finish)) X P
   unfolding Free Apart
   still-free latest Nothing free apart k c e = free (suc k) c e
   still-free latest (Colour d) free apart k c e = go (ℕ-discrete c d)
@@ -65,7 +67,8 @@ module _ (m : ℕ) (v : Interval) (X : List Interval) (P : List Pick) (so : Sort
           let ends : t ≤ interval X k .start = ⊎-elim (λ h. h) (λ h. omega arith) apart-k in
           (rw length-set (old .0), rw (q, getD-set-same latest d t 0 (rw q at (old .0))) ends)
 
-replay : (m : ℕ) (X : List Interval) (P : List Pick) (latest : List ℕ) → length P ≡ length X → Sorted m X → Free latest X P → Apart X P → Replay X P latest
+replay : (m : ℕ) (X : List Interval) (P : List Pick) (latest : List ℕ) → length P ≡ length X → Sorted m X → Free latest X P → Apart X P
+    → Replay X P latest
 unfolding Apart
 replay m [] [] latest each so free apart = done
 replay m [] (p ∷ P) latest each so free apart = absurd (omega arith)
@@ -73,18 +76,20 @@ replay m (v ∷ X) [] latest each so free apart = absurd (omega arith)
 replay m (v ∷ X) (p ∷ P) latest each so free apart =
     let each′ : length P ≡ length X = omega arith in
     next (allowed latest v X p P free)
-    (replay (v .finish) X P (after latest p (v .finish)) each′ (so .2) (still-free m v X P so each′ latest p free apart) (λ j k c n. apart (suc j) (suc k) c (λ e. n (suc-inj e))))
+    (replay (v .finish) X P (withPick latest p (v .finish)) each′ (so .2) (still-free m v X P so each′ latest p free apart)
+    (λ j k c n. apart (suc j) (suc k) c (λ e. n (suc-inj e))))
 
 colouring-replay : (w : ℕ) (X : List Interval) (P : List Pick) → Sorted 0 X → Colouring w X P → Replay X P (replicate w 0)
 unfolding Free Apart
 colouring-replay w X P so f =
-    let free : Free (replicate w 0) X P = λ k c e. (rw length-replicate (f .colours k c e), rw (getD-replicate {A = ℕ} w c 0 0 (f .colours k c e)) (omega arith)) in
+    let free : Free (replicate w 0) X P =
+    λ k c e. (rw length-replicate (f .colours k c e), rw (getD-replicate {A = ℕ} w c 0 0 (f .colours k c e)) (omega arith)) in
     replay 0 X P (replicate w 0) (f .each) so free (f .apart)
 
 -- ---- from what is allowed one after the other to a colouring
 
 -- an end never falls
-rises : (latest : List ℕ) (s t : ℕ) (p : Pick) (c : ℕ) → Allowed latest s p → s < t → getD latest c 0 ≤ getD (after latest p t) c 0
+rises : (latest : List ℕ) (s t : ℕ) (p : Pick) (c : ℕ) → Allowed latest s p → s < t → getD latest c 0 ≤ getD (withPick latest p t) c 0
 rises latest s t Nothing c ok lt = omega arith
 rises latest s t (Colour d) c ok lt = go (ℕ-discrete c d)
   where
@@ -92,21 +97,23 @@ rises latest s t (Colour d) c ok lt = go (ℕ-discrete c d)
     go (no n) = omega (arith, getD-set-other latest d c t 0 n)
     go (yes q) = rw q (omega (arith, getD-set-same latest d t 0 (ok .0), ok .1))
 
-waits : {X : List Interval} {P : List Pick} {latest : List ℕ} → Replay X P latest → (m k c : ℕ) → Sorted m X → getD P k Nothing ≡ Colour c → (c < length latest) × (getD latest c 0 ≤ interval X k .start)
+waits : {X : List Interval} {P : List Pick} {latest : List ℕ} → Replay X P latest → (m k c : ℕ) → Sorted m X → getD P k Nothing ≡ Colour c
+    → (c < length latest) × (getD latest c 0 ≤ interval X k .start)
 waits done m k c so e = absurd (no-colour c e)
 waits (next {v = v} {latest = latest} ok rest) m zero c so e = subst (Allowed latest (v .start)) e ok
 waits (next {v = v} {p = p} {latest = latest} ok rest) m (suc k) c so e =
     let ih = waits rest (v .finish) k c (so .2) e in
     (omega (arith, length-after latest p (v .finish), ih .0), omega (arith, rises latest (v .start) (v .finish) p c ok (so .1), ih .1))
 
-ordered : {X : List Interval} {P : List Pick} {latest : List ℕ} → Replay X P latest → (m j k c : ℕ) → Sorted m X → j < k → getD P j Nothing ≡ Colour c → getD P k Nothing ≡ Colour c → interval X j .finish ≤ interval X k .start
+ordered : {X : List Interval} {P : List Pick} {latest : List ℕ} → Replay X P latest → (m j k c : ℕ) → Sorted m X → j < k
+    → getD P j Nothing ≡ Colour c → getD P k Nothing ≡ Colour c → interval X j .finish ≤ interval X k .start
 ordered done m j k c so l ej ek = absurd (no-colour c ej)
 ordered (next ok rest) m j zero c so l ej ek = absurd (not-suc-le-zero l)
 ordered (next {v = v} {p = p} {latest = latest} ok rest) m zero (suc k) c so l ej ek =
     let t = v .finish in
     let free = (waits rest t k c (so .2) ek) .1 in
     let ok′ = subst (Allowed latest (v .start)) ej ok in
-    omega (arith, ap (λ (q : Pick). getD (after latest q t) c 0) ej, getD-set-same latest c t 0 (ok′ .0), free)
+    omega (arith, ap (λ (q : Pick). getD (withPick latest q t) c 0) ej, getD-set-same latest c t 0 (ok′ .0), free)
 ordered (next {v = v} ok rest) m (suc j) (suc k) c so l ej ek = ordered rest (v .finish) j k c (so .2) (le-of-suc-le-suc l) ej ek
 
 sized : {X : List Interval} {P : List Pick} {latest : List ℕ} → Replay X P latest → length P ≡ length X
@@ -118,7 +125,8 @@ replay-colouring w X P so re =
     record {
       each = sized re;
       colours = λ k c e. rw length-replicate at ((waits re 0 k c so e) .0);
-      apart = λ j k c n ej ek. ⊎-elim (λ l. inl (ordered re 0 j k c so l ej ek)) (λ l. inr (ordered re 0 k j c so (omega arith) ek ej)) (lt-or-le j k);
+      apart = λ j k c n ej ek.
+          ⊎-elim (λ l. inl (ordered re 0 j k c so l ej ek)) (λ l. inr (ordered re 0 k j c so (omega arith) ek ej)) (lt-or-le j k);
     }
 
 -- ---- the theorem
@@ -126,13 +134,13 @@ replay-colouring w X P so re =
 pick-allowed : (latest : List ℕ) (a : ℕ) → Allowed latest a (pick latest a)
 pick-allowed latest a = go (pick latest a) (pick-is-chosen latest a)
   where
-    go : (p : Pick) → Chosen latest a p → Allowed latest a p
+    go : (p : Pick) → BestPick latest a p → Allowed latest a p
     go (Colour c) h = (h .inside, h .fits)
     go Nothing h = tt
 
 picks-replay : (X : List Interval) (latest : List ℕ) → Replay X (picks X latest) latest
 picks-replay [] latest = done
-picks-replay (v ∷ X) latest = next (pick-allowed latest (v .start)) (picks-replay X (after latest (pick latest (v .start)) (v .finish)))
+picks-replay (v ∷ X) latest = next (pick-allowed latest (v .start)) (picks-replay X (withPick latest (pick latest (v .start)) (v .finish)))
 
 pub best-fit-is-optimal : BestFitIsOptimal
 best-fit-is-optimal w X so =

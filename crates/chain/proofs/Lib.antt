@@ -14,4 +14,3 @@ pub mod ChainOptimal
 pub mod BucketLists
 pub mod Taking
 pub mod Tables
-pub mod Cases

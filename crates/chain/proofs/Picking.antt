@@ -12,7 +12,7 @@ use lib.Dec.{ltb}
 use borrow.Author.Tests.{le-leb, lt-leb, le-ltb, lt-ltb}
 use Rattle.chain.specs.declared.rule.Pick.{Pick}
 use Rattle.chain.specs.declared.rule.Pick.the-variants.{Colour, Nothing}
-use Rattle.chain.specs.Rule.{rank, bestRank, bestColour, choose, pick, BestFit, Chosen, PickIsChosen, Below}
+use Rattle.chain.specs.Rule.{rank, bestRank, bestColour, choose, pick, BestFit, BestPick, PickIsBest, Below}
 use Rattle.chain.proofs.Basics.{lt-or-le}
 
 rank-fits : (end a : ℕ) → end ≤ a → rank end a ≡ end + 1
@@ -58,7 +58,9 @@ further end latest a top c r t h =
     before (suc d) l = h .first d (le-of-suc-le-suc l)
 
 -- the best rank and its colour are those so far, or the list has them
-best-hit : (latest : List ℕ) (a top c at : ℕ) → ((bestRank latest a top ≡ top) × (bestColour latest a top c at ≡ at)) ⊎ Hit latest a top c (bestColour latest a top c at) (bestRank latest a top)
+best-hit : (latest : List ℕ) (a top c at : ℕ)
+    → ((bestRank latest a top ≡ top) × (bestColour latest a top c at ≡ at))
+    ⊎ Hit latest a top c (bestColour latest a top c at) (bestRank latest a top)
 best-hit [] a top c at = inl (refl, refl)
 best-hit (end ∷ latest) a top c at = go (lt-or-le top (rank end a)) (lt-or-le a end) (best-hit latest a m (c + 1) d)
   where
@@ -74,7 +76,8 @@ best-hit (end ∷ latest) a top c at = go (lt-or-le top (rank end a)) (lt-or-le 
     r : ℕ
     r = bestColour latest a m (c + 1) d
 
-    go : (top < rank end a) ⊎ (rank end a ≤ top) → (a < end) ⊎ (end ≤ a) → ((t ≡ m) × (r ≡ d)) ⊎ Hit latest a m (c + 1) r t → ((t ≡ top) × (r ≡ at)) ⊎ Hit (end ∷ latest) a top c r t
+    go : (top < rank end a) ⊎ (rank end a ≤ top) → (a < end) ⊎ (end ≤ a) → ((t ≡ m) × (r ≡ d)) ⊎ Hit latest a m (c + 1) r t
+        → ((t ≡ top) × (r ≡ at)) ⊎ Hit (end ∷ latest) a top c r t
     go x z (inr hit) = inr (further end latest a top c r t hit)
     go (inl more) (inl over) (inl q) = absurd (omega (arith, rank-above end a over))
     go (inl more) (inr fits) (inl q) =
@@ -94,12 +97,16 @@ best-hit (end ∷ latest) a top c at = go (lt-or-le top (rank end a)) (lt-or-le 
         inl (omega arith, omega arith)
 
 -- the rule's pick is the best fit, and nothing only where nothing fits
-pub pick-is-chosen : PickIsChosen
+pub pick-is-chosen : PickIsBest
 unfolding pick
 pick-is-chosen latest a = go (bestRank latest a 0) (bestColour latest a 0 0 0) refl refl (best-hit latest a 0 0 0)
   where
-    go : (t r : ℕ) → bestRank latest a 0 ≡ t → bestColour latest a 0 0 0 ≡ r → ((bestRank latest a 0 ≡ 0) × (bestColour latest a 0 0 0 ≡ 0)) ⊎ Hit latest a 0 0 (bestColour latest a 0 0 0) (bestRank latest a 0) → Chosen latest a (choose t r)
-    go zero r et er h = λ d l. ⊎-elim (λ over. over) (λ fits. omega (arith, best-most latest a 0 d l, rank-fits (getD latest d 0) a fits)) (lt-or-le a (getD latest d 0))
+    go : (t r : ℕ) → bestRank latest a 0 ≡ t → bestColour latest a 0 0 0 ≡ r
+        → ((bestRank latest a 0 ≡ 0) × (bestColour latest a 0 0 0 ≡ 0)) ⊎ Hit latest a 0 0 (bestColour latest a 0 0 0) (bestRank latest a 0)
+        → BestPick latest a (choose t r)
+    go zero r et er h = λ d l.
+        ⊎-elim (λ over. over) (λ fits. omega (arith, best-most latest a 0 d l, rank-fits (getD latest d 0) a fits))
+        (lt-or-le a (getD latest d 0))
     go (suc t) r et er (inl h) = absurd (omega arith)
     go (suc t) r et er (inr h) =
         let same : h .k ≡ r = omega arith in
@@ -115,7 +122,7 @@ pick-is-chosen latest a = go (bestRank latest a 0) (bestColour latest a 0 0 0) r
 pub pick-below : (latest : List ℕ) (a : ℕ) → Below (pick latest a) (length latest)
 pick-below latest a = go (pick latest a) (pick-is-chosen latest a)
   where
-    go : (p : Pick) → Chosen latest a p → Below p (length latest)
+    go : (p : Pick) → BestPick latest a p → Below p (length latest)
     go (Colour c) h = h .inside
     go Nothing h = tt
 

@@ -18,7 +18,8 @@ plain-apart r s h link on =
     ⊎-elim (λ x. plain-avoids-before s link (omega arith)) (λ x. plain-avoids-behind s link (omega arith)) h
 
 -- and only so: else the larger of the starts is a common link
-pub apart-plain : (r s : Request) → r .a < r .b → s .a < s .b → (uses Plain r (max (r .a) (s .a)) ≡ true → uses Plain s (max (r .a) (s .a)) ≡ false) → (r .b ≤ s .a) ⊎ (s .b ≤ r .a)
+pub apart-plain : (r s : Request) → r .a < r .b → s .a < s .b
+    → (uses Plain r (max (r .a) (s .a)) ≡ true → uses Plain s (max (r .a) (s .a)) ≡ false) → (r .b ≤ s .a) ⊎ (s .b ≤ r .a)
 apart-plain r s hr hs h = go (lt-or-le (s .a) (r .b)) (lt-or-le (r .a) (s .b))
   where
     link : ℕ
@@ -27,4 +28,5 @@ apart-plain r s hr hs h = go (lt-or-le (s .a) (r .b)) (lt-or-le (r .a) (s .b))
     go : (s .a < r .b) ⊎ (r .b ≤ s .a) → (r .a < s .b) ⊎ (s .b ≤ r .a) → (r .b ≤ s .a) ⊎ (s .b ≤ r .a)
     go (inr x) y = inl x
     go (inl x) (inr y) = inr y
-    go (inl x) (inl y) = impossible (sym (plain-uses s link (omega arith) (omega arith)) ∙ h (plain-uses r link (omega arith) (omega arith)))
+    go (inl x) (inl y) = impossible (sym (plain-uses s link (omega arith) (omega arith))
+        ∙ h (plain-uses r link (omega arith) (omega arith)))

@@ -10,7 +10,7 @@ use Rattle.ring.specs.Requests.{request}
 use Rattle.chain.specs.declared.rule.Pick.{Pick}
 use Rattle.chain.specs.declared.rule.Pick.the-variants.{Colour, Nothing}
 use Rattle.chain.specs.Order.{order}
-use Rattle.chain.specs.Rule.{pick, after}
+use Rattle.chain.specs.Rule.{pick, withPick}
 
 -- "All requests go the plain way." "If there is none, the request is blocked."
 abbrev pub plainFate : Pick → Fate
@@ -23,7 +23,7 @@ pickFor R i latest = pick latest (request R i .a)
 
 -- the latest ends after request i of R
 abbrev pub latestAfter : List Request → ℕ → List ℕ → List ℕ
-latestAfter R i latest = after latest (pickFor R i latest) (request R i .b)
+latestAfter R i latest = withPick latest (pickFor R i latest) (request R i .b)
 
 -- the fates after the requests of these numbers are taken one by one, from the latest ends and the fates so far
 abbrev pub chainFrom : List Request → List ℕ → List ℕ → List Fate → List Fate

@@ -1,6 +1,6 @@
--- The chain part of a plan, in document 01's words and order.
+-- The chain part of a plan, in the order of the rules.
 pub mod Order
 pub mod Rule
 pub mod ChainPart
-pub mod Walk
 pub mod Promises
+pub mod Internal

@@ -31,9 +31,9 @@ unfoldable pub pick : List ℕ → ℕ → Pick
 pick latest a = choose (bestRank latest a 0) (bestColour latest a 0 0 0)
 
 -- "that colour's latest end becomes b"
-abbrev pub after : List ℕ → Pick → ℕ → List ℕ
-after latest (Colour c) b = set latest c b
-after latest Nothing b = latest
+abbrev pub withPick : List ℕ → Pick → ℕ → List ℕ
+withPick latest (Colour c) b = set latest c b
+withPick latest Nothing b = latest
 
 -- the sentence as a promise: c is a colour whose latest end is not above a, the greatest such, and the lowest colour with it
 pub record BestFit (latest : List ℕ) (a c : ℕ) : Type 0 where
@@ -46,14 +46,14 @@ pub record BestFit (latest : List ℕ) (a c : ℕ) : Type 0 where
 abbrev pub NoFit : List ℕ → ℕ → Type 0
 NoFit latest a = (d : ℕ) → d < length latest → a < getD latest d 0
 
--- what a pick has to be
-abbrev pub Chosen : List ℕ → ℕ → Pick → Type 0
-Chosen latest a (Colour c) = BestFit latest a c
-Chosen latest a Nothing = NoFit latest a
+-- what the rule asks of a pick
+abbrev pub BestPick : List ℕ → ℕ → Pick → Type 0
+BestPick latest a (Colour c) = BestFit latest a c
+BestPick latest a Nothing = NoFit latest a
 
 -- the promise that the rule's pick is that
-abbrev pub PickIsChosen : Type 0
-PickIsChosen = (latest : List ℕ) (a : ℕ) → Chosen latest a (pick latest a)
+abbrev pub PickIsBest : Type 0
+PickIsBest = (latest : List ℕ) (a : ℕ) → BestPick latest a (pick latest a)
 
 -- the pick's colour, if there is one, is below w
 abbrev pub Below : Pick → ℕ → Type 0

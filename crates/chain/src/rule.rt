@@ -2,8 +2,8 @@
 ghost use mathlib.Core.Path.{_≡_};
 ghost use Prim.Native.Nat.{_≤_, _<_};
 ghost use lib.ListN.{length, take};
-ghost use Rattle.chain.specs.Rule.{pick, after, Below};
-ghost use Rattle.chain.specs.Walk.{Greatest, FirstWith, InUse, usedAfter};
+ghost use Rattle.chain.specs.Rule.{pick, withPick, Below};
+ghost use Rattle.chain.specs.Internal.Walk.{Greatest, FirstWith, InUse, usedAfter};
 
 // A colour, or none.
 pub enum Pick {
@@ -40,12 +40,12 @@ fn first_with(latest: &[u16; 128], w: usize, end: u16) -> Pick
     requires { ⌜ (w ≤ 128) × (length (now latest) ≡ 128) ⌝ }
     ensures { λ r. ⌜ FirstWith (now (latest .entry)) w «end» r ⌝ }
 {
-    let mut c: usize = 0;
-    while c < w {
-        if latest[c] == end {
-            return Pick::Colour(c);
+    let mut colour: usize = 0;
+    while colour < w {
+        if latest[colour] == end {
+            return Pick::Colour(colour);
         }
-        c += 1;
+        colour += 1;
     }
     Pick::Nothing
 }
@@ -61,7 +61,8 @@ fn unused(used: usize, w: usize) -> Pick
     }
 }
 
-// The colour below w whose latest end is greatest among those not above a, the lowest colour on a tie. No latest end of a colour in use is 0, so 0 says that none of them fits.
+// The colour below w whose latest end is greatest among those not above a, the lowest colour on a tie. No latest end of a colour in use is
+// 0, so 0 says that none of them fits.
 pub fn best(latest: &[u16; 128], used: usize, w: usize, a: u16) -> Pick
     requires { ⌜ (w ≤ 128) × (length (now latest) ≡ 128) × InUse used w (now latest) ⌝ }
     ensures { λ r. ⌜ r ≡ pick (take w (now (latest .entry))) a ⌝ }
@@ -76,7 +77,7 @@ pub fn best(latest: &[u16; 128], used: usize, w: usize, a: u16) -> Pick
 // The latest ends after a pick for a request with the larger end b.
 pub fn put(latest: &mut [u16; 128], pick: Pick, b: u16)
     requires { ⌜ Below pick 128 ⌝ }
-    ensures { λ _. ⌜ now (latest .exit) ≡ after (now (latest .entry)) pick b ⌝ }
+    ensures { λ _. ⌜ now (latest .exit) ≡ withPick (now (latest .entry)) pick b ⌝ }
 {
     if let Pick::Colour(c) = pick {
         latest[c] = b;

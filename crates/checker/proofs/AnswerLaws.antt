@@ -11,8 +11,9 @@ use Rattle.ring.specs.declared.refusals.Refusal.{Refusal}
 use Rattle.ring.specs.declared.refusals.Verdict.{Verdict}
 use Rattle.ring.specs.declared.refusals.Verdict.the-variants.{Allowed, Refused}
 use Rattle.ring.specs.Requests.{requestsOf, ValidRequests}
-use Rattle.ring.specs.Ways.{sharing}
+use Rattle.ring.specs.Internal.Sharing.{sharing}
 use Rattle.ring.specs.Plans.{fatesOf, served}
+use Rattle.ring.specs.Refusals.{orElse}
 use Rattle.ring.specs.Admission.{callVerdict, ringUnless, callAnswer}
 use Rattle.ring.proofs.Cases.{impossible}
 use Rattle.ring.proofs.RequestLaws.{requests-length, valid-on-256}
@@ -23,19 +24,16 @@ use Rattle.checker.proofs.ConflictLaws.{pairs-means}
 
 -- 7, 8, and success
 module _ (share : SharingTest) (w : ℕ) (R : List Request) (numbers : List ℕ) where
-  pub number-refused : (r : Refusal) → numberVerdicts w numbers ≡ Refused r → answer.Refused r ≡ tableAnswer share w R numbers
-  unfolding tableAnswer
-  number-refused r e = cc
+  abbrev grounds : Verdict
+  grounds = orElse (numberVerdicts w numbers) (pairVerdicts share R (fatesOf numbers))
 
-  pub pairs-refused : (r : Refusal) → numberVerdicts w numbers ≡ Allowed → pairVerdicts share R (fatesOf numbers) ≡ Refused r
-      → answer.Refused r ≡ tableAnswer share w R numbers
+  pub table-refused : (r : Refusal) → grounds ≡ Refused r → answer.Refused r ≡ tableAnswer share w R numbers
   unfolding tableAnswer
-  pairs-refused r e f = cc
+  table-refused r e = rw e
 
-  pub passed : (k : ℕ) → numberVerdicts w numbers ≡ Allowed → pairVerdicts share R (fatesOf numbers) ≡ Allowed → k ≡ served (fatesOf numbers)
-      → answer.Passed k ≡ tableAnswer share w R numbers
+  pub passed : (k : ℕ) → grounds ≡ Allowed → k ≡ served (fatesOf numbers) → answer.Passed k ≡ tableAnswer share w R numbers
   unfolding tableAnswer
-  passed k e f g = cc
+  passed k e f = rw (e, f)
 
 -- a refusal of the call
 ring-refused : (v : Verdict) (n w : ℕ) (r : Refusal) → ringUnless v n w ≡ ring-answer.Refused r → v ≡ Refused r
@@ -43,7 +41,8 @@ ring-refused Allowed n w r e = impossible (cc)
 ring-refused (Refused q) n w r e = cc
 
 module _ (n w : ℕ) (ends table : List ℕ) where
-  pub call-refused : (r : Refusal) → callAnswer n w ends (length table) ≡ ring-answer.Refused r → answer.Refused r ≡ checkAnswer n w ends table
+  pub call-refused : (r : Refusal) → callAnswer n w ends (length table) ≡ ring-answer.Refused r
+      → answer.Refused r ≡ checkAnswer n w ends table
   unfolding callAnswer checkAnswer
   call-refused r e = cc (ring-refused (callVerdict n w ends (length table)) n w r e)
 
@@ -55,7 +54,8 @@ module _ (n w : ℕ) (ends table : List ℕ) where
     pub numbers-length : length (take (length ends / 2) table) ≡ length ends / 2
     numbers-length = omega (arith, length-take (length ends / 2) table, limits .table, requests-length ends)
 
-    pub numbers-fit : (w ≤ 128) × (length ends ≡ 2 * length (take (length ends / 2) table)) × (length (take (length ends / 2) table) ≤ 512) × ValidRequests 256 (requestsOf ends)
+    pub numbers-fit : (w ≤ 128) × (length ends ≡ 2 * length (take (length ends / 2) table)) × (length (take (length ends / 2) table) ≤ 512)
+        × ValidRequests 256 (requestsOf ends)
     numbers-fit = (
       limits .ring .colours-to,
       omega (arith, numbers-length, limits .list .even, requests-length ends),

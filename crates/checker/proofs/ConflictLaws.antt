@@ -14,10 +14,11 @@ use Rattle.ring.specs.declared.fates.Fate.the-variants.{Blocked, Served}
 use Rattle.ring.specs.declared.refusals.Refusal.the-variants.{Conflict}
 use Rattle.ring.specs.declared.refusals.Verdict.the-variants.{Allowed, Refused}
 use Rattle.ring.specs.Requests.{requestsOf, request, ValidRequests}
-use Rattle.ring.specs.Ways.{sharing, shareLink}
+use Rattle.ring.specs.Ways.{shareLink}
+use Rattle.ring.specs.Internal.Sharing.{sharing}
 use Rattle.ring.specs.Fates.{fateOf}
 use Rattle.ring.specs.Plans.{fate, fatesOf}
-use Rattle.ring.specs.Admission.{refuseIf}
+use Rattle.ring.specs.Refusals.{refuseIf}
 use Rattle.ring.proofs.Cases.{yes, no, is, impossible}
 use Rattle.ring.proofs.WayLaws.{sharing-means}
 use Rattle.ring.proofs.FateLaws.{fate-at}
@@ -80,11 +81,14 @@ module _ (share : SharingTest) (ends numbers : List ℕ) (i : ℕ) where
   pub later-blocked : fateOf (getD numbers i 0) ≡ Blocked → Allowed ≡ laterVerdict share (requestsOf ends) (fatesOf numbers) i
   unfolding laterVerdict pairVerdict conflicting
   later-blocked e =
-      sym (none-first (pairVerdict share (requestsOf ends) (fatesOf numbers) i) (i + 1) (length (requestsOf ends) - (i + 1)) (λ k l u. cc (fate-at numbers i)))
+      sym (none-first (pairVerdict share (requestsOf ends) (fatesOf numbers) i) (i + 1) (length (requestsOf ends) - (i + 1))
+      (λ k l u. cc (fate-at numbers i)))
 
-  module _ (way : Way) (colour : ℕ) (r : Request) (is-served : fateOf (getD numbers i 0) ≡ Served way colour) (is-request : r ≡ request (requestsOf ends) i) (j : ℕ)
+  module _ (way : Way) (colour : ℕ) (r : Request) (is-served : fateOf (getD numbers i 0) ≡ Served way colour)
+      (is-request : r ≡ request (requestsOf ends) i) (j : ℕ)
       (t : Bool) (tested : t ≡ conflicting share (Served way colour) r (fateOf (getD numbers j 0)) (request (requestsOf ends) j)) where
-    test-is : conflicting share (fate (fatesOf numbers) i) (request (requestsOf ends) i) (fate (fatesOf numbers) j) (request (requestsOf ends) j) ≡ t
+    test-is : conflicting share (fate (fatesOf numbers) i) (request (requestsOf ends) i) (fate (fatesOf numbers) j)
+        (request (requestsOf ends) j) ≡ t
     test-is = cc (fate-at numbers i, fate-at numbers j)
 
     pub pair-refused : t ≡ true → pairVerdict share (requestsOf ends) (fatesOf numbers) i j ≡ Refused (Conflict i j)

@@ -1,7 +1,7 @@
 -- The checker decides whether a table holds a feasible plan.
 use Prim.Native.Nat.{ℕ, _*_, _≤_, _<_}
 use mathlib.Core.Path.{_≡_, sym, _∙_}
-use mathlib.Core.Bool.{true, false, true≢false}
+use mathlib.Core.Bool.{true≢false}
 use mathlib.Core.List.{List}
 use native.Mathlib.Omega.{arith}
 use lib.ListN.{length, getD, length-take}
@@ -16,10 +16,9 @@ use Rattle.ring.specs.Plans.{fate, fatesOf, Feasible}
 use Rattle.ring.proofs.Cases.{yes, no, is, less, not-less, compare, impossible}
 use Rattle.ring.proofs.FateLaws.{number-of-fate, number-blocked, served-within, within-served, fates-length, fate-at, fate-past}
 use Rattle.ring.proofs.PlanLaws.{served?, served-yes, served-no}
-use Rattle.ring.proofs.AdmissionLaws.{call-limits}
+use Rattle.ring.proofs.AdmissionLaws.{call-limits, says-allowed, says-refused, says}
 use Rattle.checker.specs.Check.{numberVerdicts, pairVerdicts, tableAnswer, numbersIn, checkAnswer}
 use Rattle.checker.specs.Decision.{InConflict, Decided, CheckerDecides}
-use Rattle.checker.proofs.GroundLaws.{allows, refuses, says}
 use Rattle.checker.proofs.FaultLaws.{numbers-within, within-numbers, number-fault, pairs-apart, apart-pairs, conflict-fault}
 
 module _ (n w : ℕ) (R : List Request) (numbers : List ℕ) (each : length numbers ≡ length R) where
@@ -80,32 +79,37 @@ module _ (n w : ℕ) (R : List Request) (numbers : List ℕ) (each : length numb
     | yes e ↦
         let s = served-yes (fateOf (getD numbers k 0)) e in
         served-within (getD numbers k 0) w (s .colour) (s .way) (s .is) (f .colours k (s .colour) (s .way) (fate-at numbers k ∙ s .is))
-    | no e ↦ omega (arith, number-blocked (fateOf (getD numbers k 0)) (served-no (fateOf (getD numbers k 0)) e), number-of-fate (getD numbers k 0))
+    | no e ↦ omega (
+      arith,
+      number-blocked (fateOf (getD numbers k 0)) (served-no (fateOf (getD numbers k 0)) e),
+      number-of-fate (getD numbers k 0),
+    )
   ]
 
   feasible-apart : Feasible n w R F → (i j : ℕ) → InConflict n R F i j → ⊥
   feasible-apart f i j x =
       true≢false (sym (x .second-uses)
-      ∙ f .apart i j (x .colour) (x .first-way) (x .second-way) (λ e. omega (arith, x .before)) (x .first-served) (x .second-served) (x .link) (x .below) (x .first-uses))
+      ∙ f .apart i j (x .colour) (x .first-way) (x .second-way) (λ e. omega (arith, x .before)) (x .first-served) (x .second-served)
+      (x .link) (x .below) (x .first-uses))
 
   -- so the answer to the numbers decides
   decided : Decided n w R numbers (tableAnswer (shareLink n) w R numbers)
   unfolding tableAnswer F
   decided = elim (says (numberVerdicts w numbers)) [
-    | refuses r e ↦ record {
+    | says-refused r e ↦ record {
       passed-feasible = λ k p. impossible (cc);
       passed-served = λ k p. impossible (cc);
       feasible-passed = λ f. impossible (cc (within-numbers w numbers (feasible-within f)));
       refused-fault = λ q p. number-fault w numbers n R q (cc);
     }
-    | allows e ↦ elim (says (pairVerdicts (shareLink n) R (fatesOf numbers))) [
-      | refuses r g ↦ record {
+    | says-allowed e ↦ elim (says (pairVerdicts (shareLink n) R (fatesOf numbers))) [
+      | says-refused r g ↦ record {
         passed-feasible = λ k p. impossible (cc);
         passed-served = λ k p. impossible (cc);
         feasible-passed = λ f. impossible (cc (apart-pairs n R (fatesOf numbers) (feasible-apart f)));
         refused-fault = λ q p. conflict-fault n w R numbers e q (cc);
       }
-      | allows g ↦ record {
+      | says-allowed g ↦ record {
         passed-feasible = λ k p. feasible (numbers-within w numbers e) (pairs-apart n R (fatesOf numbers) g);
         passed-served = λ k p. cc;
         feasible-passed = λ f. cc;
@@ -119,5 +123,6 @@ pub checker-decides : CheckerDecides
 unfolding checkAnswer
 checker-decides n w ends table allowed =
     let limits = call-limits n w ends (length table) allowed in
-    let all : length (numbersIn ends table) ≡ length (requestsOf ends) = omega (arith, length-take (length (requestsOf ends)) table, limits .table) in
+    let all : length (numbersIn ends table) ≡ length (requestsOf ends) =
+    omega (arith, length-take (length (requestsOf ends)) table, limits .table) in
     rw allowed (decided n w (requestsOf ends) (numbersIn ends table) all)

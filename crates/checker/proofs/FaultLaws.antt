@@ -1,7 +1,7 @@
 -- What the grounds 7 and 8 say of a table: no number above 2w, no two requests in conflict, and the first of either.
 use Prim.Native.Nat.{ℕ, _+_, _*_, _-_, _≤_, _<_}
 use mathlib.Core.Path.{_≡_, sym, subst, _∙_}
-use mathlib.Core.Bool.{Bool, true, false, true≢false}
+use mathlib.Core.Bool.{Bool, true, true≢false}
 use mathlib.Core.List.{List}
 use native.Mathlib.Omega.{arith}
 use lib.Dec.{ltb}
@@ -17,10 +17,10 @@ use Rattle.ring.specs.Ways.{shareLink}
 use Rattle.ring.specs.Plans.{fate, fatesOf}
 use Rattle.ring.proofs.Cases.{yes, no, is}
 use Rattle.ring.proofs.WayLaws.{share-found, found-share}
-use Rattle.ring.proofs.AdmissionLaws.{refuse-allowed, allowed-refuse}
+use Rattle.ring.proofs.AdmissionLaws.{refuse-allowed, allowed-refuse, refuse-refused}
 use Rattle.checker.specs.Check.{numberVerdict, numberVerdicts, conflicting, pairVerdict, laterVerdict, pairVerdicts}
 use Rattle.checker.specs.Decision.{InConflict, Fault, number, conflict}
-use Rattle.checker.proofs.GroundLaws.{refuse-refused, first-none, none-first, first-refused}
+use Rattle.checker.proofs.GroundLaws.{first-none, none-first, first-refused}
 use Rattle.checker.proofs.NumberLaws.{number-within}
 use Rattle.checker.proofs.ConflictLaws.{conflict-clash, one-colour}
 
@@ -40,7 +40,8 @@ module _ (w : ℕ) (numbers : List ℕ) (i : ℕ) where
 module _ (w : ℕ) (numbers : List ℕ) where
   pub numbers-within : numberVerdicts w numbers ≡ Allowed → (k : ℕ) → k < length numbers → getD numbers k 0 ≤ 2 * w
   unfolding numberVerdicts
-  numbers-within e k h = allowed-within w numbers k (first-none (numberVerdict w numbers) 0 (length numbers) e k (omega arith) (omega arith))
+  numbers-within e k h =
+      allowed-within w numbers k (first-none (numberVerdict w numbers) 0 (length numbers) e k (omega arith) (omega arith))
 
   pub within-numbers : ((k : ℕ) → k < length numbers → getD numbers k 0 ≤ 2 * w) → numberVerdicts w numbers ≡ Allowed
   unfolding numberVerdicts
@@ -101,7 +102,8 @@ module _ (n : ℕ) (R : List Request) (F : List Fate) (i j : ℕ) where
     | no e ↦ allowed-refuse test (Conflict i j) e
   ]
 
-  refused-conflict : i < j → j < length R → (r : Refusal) → pairVerdict (shareLink n) R F i j ≡ Refused r → InConflict n R F i j × (r ≡ Conflict i j)
+  refused-conflict : i < j → j < length R → (r : Refusal) → pairVerdict (shareLink n) R F i j ≡ Refused r
+      → InConflict n R F i j × (r ≡ Conflict i j)
   unfolding pairVerdict test
   refused-conflict h k r e =
       let both = refuse-refused test (Conflict i j) r e in
@@ -113,7 +115,8 @@ module _ (n : ℕ) (R : List Request) (F : List Fate) where
   unfolding laterVerdict
   later-apart i e j x =
       allowed-apart n R F i j
-      (first-none (pairVerdict (shareLink n) R F i) (i + 1) (length R - (i + 1)) e j (omega (arith, x .before)) (omega (arith, x .before, x .listed))) x
+      (first-none (pairVerdict (shareLink n) R F i) (i + 1) (length R - (i + 1)) e j (omega (arith, x .before))
+      (omega (arith, x .before, x .listed))) x
 
   pub pairs-apart : pairVerdicts (shareLink n) R F ≡ Allowed → (i j : ℕ) → InConflict n R F i j → ⊥
   unfolding pairVerdicts
@@ -129,7 +132,8 @@ module _ (n : ℕ) (R : List Request) (F : List Fate) where
 
 -- if it is, it names the lowest first, then lowest second request
 module _ (n w : ℕ) (R : List Request) (numbers : List ℕ) where
-  pub conflict-fault : numberVerdicts w numbers ≡ Allowed → (r : Refusal) → pairVerdicts (shareLink n) R (fatesOf numbers) ≡ Refused r → Fault n w R numbers r
+  pub conflict-fault : numberVerdicts w numbers ≡ Allowed → (r : Refusal) → pairVerdicts (shareLink n) R (fatesOf numbers) ≡ Refused r
+      → Fault n w R numbers r
   unfolding pairVerdicts laterVerdict
   conflict-fault a r e =
       let F = fatesOf numbers in

@@ -1,32 +1,18 @@
 -- The first refusal of a ground among the requests from one number on.
 use Prim.Native.Nat.{ℕ, zero, suc, _+_, _-_, _≤_, _<_}
 use mathlib.Core.Path.{_≡_, refl, sym, ap, _∙_}
-use mathlib.Core.Bool.{Bool, true, false}
 use native.Mathlib.Omega.{arith}
 use borrow.Author.Tests.{eqb-false}
 use Rattle.ring.specs.declared.refusals.Refusal.{Refusal}
 use Rattle.ring.specs.declared.refusals.Verdict.{Verdict}
 use Rattle.ring.specs.declared.refusals.Verdict.the-variants.{Allowed, Refused}
-use Rattle.ring.specs.Admission.{refuseIf, orElse}
+use Rattle.ring.specs.Refusals.{orElse}
 use Rattle.ring.proofs.Cases.{same, different, test, impossible}
-use Rattle.ring.proofs.AdmissionLaws.{both-allowed, allowed-both}
+use Rattle.ring.proofs.AdmissionLaws.{both-allowed, allowed-both, says-allowed, says-refused, says}
 use Rattle.checker.specs.Check.{firstGround}
 
--- a verdict allows, or it refuses
-pub data Says (v : Verdict) : Type 0 where
-  allows : v ≡ Allowed → Says v
-  refuses : (r : Refusal) → v ≡ Refused r → Says v
-
-pub says : (v : Verdict) → Says v
-says Allowed = allows refl
-says (Refused r) = refuses r refl
-
--- a refusal of one ground is its own, and its test holds
-pub refuse-refused : (t : Bool) (g r : Refusal) → refuseIf t g ≡ Refused r → (t ≡ true) × (r ≡ g)
-refuse-refused true g r e = (refl, cc)
-refuse-refused false g r e = (impossible (cc), impossible (cc))
-
--- the walk over the requests below m, of which `whole` is the result: it begins with them all, a refusal is the result, without one it goes on, and
+-- the walk over the requests below m, of which `whole` is the result: it begins with them all, a refusal is the result, without one it
+-- goes on, and
 -- past the last request nothing is refused
 pub walk-begin : (ground : ℕ → Verdict) (m : ℕ) → firstGround ground 0 (m - 0) ≡ firstGround ground 0 m
 walk-begin ground m =
@@ -90,12 +76,13 @@ pub record FirstRefused (ground : ℕ → Verdict) (i count : ℕ) (r : Refusal)
   pub refused : ground place ≡ Refused r
   pub before : (k : ℕ) → i ≤ k → k < place → ground k ≡ Allowed
 
-pub first-refused : (ground : ℕ → Verdict) (i count : ℕ) (r : Refusal) → firstGround ground i count ≡ Refused r → FirstRefused ground i count r
+pub first-refused : (ground : ℕ → Verdict) (i count : ℕ) (r : Refusal) → firstGround ground i count ≡ Refused r
+    → FirstRefused ground i count r
 unfolding firstGround
 first-refused ground i zero r e = impossible (cc)
 first-refused ground i (suc count) r e = elim (says (ground i)) [
-  | refuses q f ↦ record { place = i; from = omega arith; below = omega arith; refused = cc; before = λ k l u. absurd (omega arith) }
-  | allows f ↦
+  | says-refused q f ↦ record { place = i; from = omega arith; below = omega arith; refused = cc; before = λ k l u. absurd (omega arith) }
+  | says-allowed f ↦
       let rest = first-refused ground (i + 1) count r (cc) in
       record {
         place = rest .place;

@@ -6,4 +6,3 @@ pub mod PlacingLaws
 pub mod AnswerLaws
 pub mod FaultLaws
 pub mod DecisionLaws
-pub mod CheckCases

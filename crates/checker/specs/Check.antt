@@ -1,7 +1,7 @@
 -- The answer to a check of fate numbers.
 use Prim.Native.Nat.{ℕ, zero, suc, _+_, _*_, _-_}
 use mathlib.Core.Bool.{Bool, false, _&&_}
-use mathlib.Core.List.{List}
+use mathlib.Core.List.{List, [], _∷_}
 use lib.Dec.{eqb, ltb}
 use lib.ListN.{length, getD, take}
 use Rattle.ring.specs.declared.ways.Way.{Way}
@@ -14,7 +14,9 @@ use Rattle.ring.specs.declared.refusals.Verdict.the-variants.{Allowed, Refused}
 use Rattle.ring.specs.Requests.{requestsOf, request}
 use Rattle.ring.specs.Ways.{shareLink}
 use Rattle.ring.specs.Plans.{fate, fatesOf, served}
-use Rattle.ring.specs.Admission.{refuseIf, orElse, callVerdict}
+use Rattle.ring.specs.Admission.{callVerdict}
+use Rattle.ring.specs.Refusals.{refuseIf, orElse}
+use Rattle.ring.specs.Answers.{InNumbers, gives, refuses}
 use Rattle.checker.specs.declared.CheckAnswer.{CheckAnswer}
 use Rattle.checker.specs.declared.CheckAnswer.the-variants as answer
 
@@ -58,12 +60,11 @@ abbrev pub unlessRefused : Verdict → CheckAnswer → CheckAnswer
 unlessRefused (Refused r) later = answer.Refused r
 unlessRefused Allowed later = later
 
--- 7, then 8; "Success gives the number served"
+-- 7, then 8; success gives the number served
 unfoldable pub tableAnswer : SharingTest → ℕ → List Request → List ℕ → CheckAnswer
 tableAnswer share w R numbers =
-    unlessRefused (numberVerdicts w numbers)
-    (unlessRefused (pairVerdicts share R (fatesOf numbers))
-    (answer.Passed (served (fatesOf numbers))))
+    unlessRefused (orElse (numberVerdicts w numbers) (pairVerdicts share R (fatesOf numbers)))
+    (answer.Passed (served (fatesOf numbers)))
 
 -- "table entries past m are not read": the first m entries
 abbrev pub numbersIn : List ℕ → List ℕ → List ℕ
@@ -73,3 +74,8 @@ numbersIn ends table = take (length (requestsOf ends)) table
 unfoldable pub checkAnswer : ℕ → ℕ → List ℕ → List ℕ → CheckAnswer
 checkAnswer n w ends table =
     unlessRefused (callVerdict n w ends (length table)) (tableAnswer (shareLink n) w (requestsOf ends) (numbersIn ends table))
+
+-- the answer in numbers: "Success gives the number served"
+abbrev pub checkInNumbers : CheckAnswer → InNumbers
+checkInNumbers (answer.Passed k) = gives (k ∷ [])
+checkInNumbers (answer.Refused r) = refuses r

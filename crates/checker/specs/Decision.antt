@@ -39,7 +39,7 @@ pub record InConflict (n : ℕ) (R : List Request) (F : List Fate) (i j : ℕ) :
   pub first-uses : uses first-way (request R i) link ≡ true
   pub second-uses : uses second-way (request R j) link ≡ true
 
--- "8 two requests of one colour share a link: the pair with the lowest first, then lowest second request", and no number is above 2w
+-- "8 two requests of one colour share a link", "the pair with the lowest first, then lowest second request", and no number is above 2w
 pub record ConflictFault (n w : ℕ) (R : List Request) (numbers : List ℕ) (i j : ℕ) : Type 0 where
   pub numbers-within : (k : ℕ) → k < length numbers → getD numbers k 0 ≤ 2 * w
   pub conflict : InConflict n R (fatesOf numbers) i j

@@ -1,5 +1,4 @@
--- The check of a plan, in document 01's words and order, and what the checker promises of it. `Placing` is for the contracts of the functions inside.
+-- The rules on the check of a plan, in their order, and what the checker promises of it.
 pub mod Check
-pub mod Placing
 pub mod Decision
-pub mod Cases
+pub mod Internal

@@ -6,22 +6,23 @@ use ring::Request;
 use ring::Way;
 use ring::fates::fate_of;
 use ring::refusals::Verdict;
+use ring::refusals::or_else;
 use ring::requests::call_answer;
 use ring::requests::request_at;
 use ring::rings::RingAnswer;
 use ring::ways::ways_share;
 ghost use mathlib.Core.Path.{_≡_};
 ghost use mathlib.Core.Bool.{true};
-ghost use Prim.Native.Nat.{ℕ, _+_, _*_, _≤_, _<_};
+ghost use Prim.Native.Nat.{_+_, _*_, _≤_, _<_};
 ghost use lib.ListN.{length, getD};
 ghost use Rattle.ring.specs.declared.fates.Fate.the-variants.{Served};
 ghost use Rattle.ring.specs.declared.refusals.Verdict.the-variants.{Allowed};
 ghost use Rattle.ring.specs.Requests.{requestsOf, request, ValidRequests};
-ghost use Rattle.ring.specs.Ways.{sharing};
+ghost use Rattle.ring.specs.Internal.Sharing.{sharing};
 ghost use Rattle.ring.specs.Fates.{fateOf};
 ghost use Rattle.ring.specs.Plans.{fatesOf, served};
-ghost use Rattle.links.specs.Links.{Rows};
-ghost use Rattle.checker.specs.Placing.{Placing};
+ghost use Rattle.links.specs.Links.{LinkSets};
+ghost use Rattle.checker.specs.Internal.Placing.{Placed};
 ghost use Rattle.checker.specs.Check.{numberVerdicts, conflicting, laterVerdict, pairVerdicts, tableAnswer, checkAnswer};
 
 pub enum CheckAnswer {
@@ -47,7 +48,8 @@ fn number_verdict(w: u16, numbers: &[u16]) -> Verdict
 // Whether a request that is served by a way in a colour is in conflict with request j. Most pairs differ in colour.
 fn in_conflict(way: Way, colour: u16, r: Request, ends: &[u16], numbers: &[u16], j: usize) -> bool
     requires { ⌜ (2 * j + 1 < length (now ends)) × (j < length (now numbers)) ⌝ }
-    ensures { λ t. ⌜ t ≡ conflicting sharing (Served way colour) r (fateOf (getD (now (numbers .entry)) j 0)) (request (requestsOf (now (ends .entry))) j) ⌝ }
+    ensures { λ t. ⌜ t ≡ conflicting sharing (Served way colour) r (fateOf (getD (now (numbers .entry)) j 0))
+        (request (requestsOf (now (ends .entry))) j) ⌝ }
 {
     let fate = fate_of(numbers[j]);
     let Fate::Served(other_way, other_colour) = fate else {
@@ -97,11 +99,14 @@ fn pair_verdict(ends: &[u16], numbers: &[u16]) -> Verdict
     Verdict::Allowed
 }
 
-// Whether a request finds the links of its way free in its colour; it holds them from then on.
+// Whether the number is that of a colour at all, and the request finds the links of its way free in it; it holds them from then on.
 fn place(held: &mut [[u64; 4]], number: u16, request: Request) -> bool
-    requires { ⌜ Rows (now held) × (request .a < request .b) × (request .b < 256) × (number ≤ 256) ⌝ }
-    ensures { λ r. ⌜ Placing (now (held .entry)) (now (held .exit)) (fateOf number) request r ⌝ }
+    requires { ⌜ LinkSets (now held) × (request .a < request .b) × (request .b < 256) ⌝ }
+    ensures { λ r. ⌜ (r ≡ true → (number ≤ 256) × Placed (now (held .entry)) (now (held .exit)) (fateOf number) request) ⌝ }
 {
+    if 256 < number {
+        return false;
+    }
     let fate = fate_of(number);
     let Fate::Served(way, colour) = fate else {
         return true;
@@ -111,7 +116,7 @@ fn place(held: &mut [[u64; 4]], number: u16, request: Request) -> bool
 
 // Whether each request finds its links free. Then no pair is in conflict.
 fn disjoint(ends: &[u16], numbers: &[u16]) -> bool
-    requires { ⌜ (length (now ends) ≡ 2 * length (now numbers)) × ValidRequests 256 (requestsOf (now ends)) × ((i : ℕ) → i < length (now numbers) → getD (now numbers) i 0 ≤ 256) ⌝ }
+    requires { ⌜ (length (now ends) ≡ 2 * length (now numbers)) × ValidRequests 256 (requestsOf (now ends)) ⌝ }
     ensures { λ r. ⌜ (r ≡ true → pairVerdicts sharing (requestsOf (now (ends .entry))) (fatesOf (now (numbers .entry))) ≡ Allowed) ⌝ }
 {
     let none = [0u64; 4];
@@ -129,7 +134,8 @@ fn disjoint(ends: &[u16], numbers: &[u16]) -> bool
 
 // 8: the pairs are searched only where some request does not find its links free.
 fn conflict_verdict(ends: &[u16], numbers: &[u16]) -> Verdict
-    requires { ⌜ (length (now ends) ≡ 2 * length (now numbers)) × (length (now numbers) ≤ 512) × ValidRequests 256 (requestsOf (now ends)) × ((i : ℕ) → i < length (now numbers) → getD (now numbers) i 0 ≤ 256) ⌝ }
+    requires { ⌜ (length (now ends) ≡ 2 * length (now numbers)) × (length (now numbers) ≤ 512)
+        × ValidRequests 256 (requestsOf (now ends)) ⌝ }
     ensures { λ r. ⌜ r ≡ pairVerdicts sharing (requestsOf (now (ends .entry))) (fatesOf (now (numbers .entry))) ⌝ }
 {
     if disjoint(ends, numbers) {
@@ -156,15 +162,14 @@ fn served_count(numbers: &[u16]) -> u16
 
 // 7, then 8, then the number served.
 fn table_answer(w: u16, ends: &[u16], numbers: &[u16]) -> CheckAnswer
-    requires { ⌜ (w ≤ 128) × (length (now ends) ≡ 2 * length (now numbers)) × (length (now numbers) ≤ 512) × ValidRequests 256 (requestsOf (now ends)) ⌝ }
+    requires { ⌜ (w ≤ 128) × (length (now ends) ≡ 2 * length (now numbers)) × (length (now numbers) ≤ 512)
+        × ValidRequests 256 (requestsOf (now ends)) ⌝ }
     ensures { λ r. ⌜ r ≡ tableAnswer sharing w (requestsOf (now (ends .entry))) (now (numbers .entry)) ⌝ }
 {
     let above = number_verdict(w, numbers);
-    if let Verdict::Refused(refusal) = above {
-        return CheckAnswer::Refused(refusal);
-    }
     let conflict = conflict_verdict(ends, numbers);
-    if let Verdict::Refused(refusal) = conflict {
+    let verdict = or_else(above, conflict);
+    if let Verdict::Refused(refusal) = verdict {
         return CheckAnswer::Refused(refusal);
     }
     let count = served_count(numbers);

@@ -1,48 +1,93 @@
--- A refused call leaves the buffer; a length past it is refused; an accepted change leaves the changed book in it.
+-- A refused change leaves the buffer; a length past it is refused; a change leaves the changed book in it, or 17 and the book that was
+-- there.
 use Prim.Native.Nat.{ℕ, _≤_}
 use mathlib.Core.Path.{_≡_, refl, sym, _∙_, ap, subst}
 use mathlib.Core.Bool.{Bool, true, false, cond}
 use mathlib.Core.List.{List, [], _∷_, _++_}
 use native.Mathlib.Omega.{arith}
-use lib.Dec.{ltb}
-use lib.ListN.{length, drop, length-append}
+use lib.Dec.{eqb, ltb}
+use lib.ListN.{length, drop, getD, length-append}
 use lib.Seq.{take-at}
+use Rattle.ring.specs.declared.refusals.Refusal.{Refusal}
 use Rattle.ring.specs.declared.refusals.Refusal.the-variants.{BufferShort}
-use Rattle.ring.specs.declared.refusals.Verdict.{Verdict}
-use Rattle.ring.specs.declared.refusals.Verdict.the-variants as verdict
-use Rattle.ring.specs.Admission.{ringVerdict}
+use Rattle.ring.specs.Answers.{InNumbers, gives, refuses}
+use Rattle.ring.specs.Refusals.{numberOf}
 use Rattle.book.specs.declared.books.Book.{Book}
-use Rattle.book.specs.declared.books.OpenAnswer.{OpenAnswer}
-use Rattle.book.specs.declared.books.OpenAnswer.the-variants as opening
-use Rattle.book.specs.declared.grants.GrantAnswer.{GrantAnswer}
-use Rattle.book.specs.declared.grants.GrantAnswer.the-variants as grant
-use Rattle.book.specs.declared.removals.RemoveAnswer.{RemoveAnswer}
-use Rattle.book.specs.declared.removals.RemoveAnswer.the-variants as remove
-use Rattle.book.specs.Books.{Valid, openUnless, opened}
-use Rattle.book.specs.Grants.{granted}
-use Rattle.book.specs.Removals.{removed}
-use Rattle.book.proofs.Validity.{keeps-valid}
-use Rattle.stored.specs.declared.stores.StoreAnswer.the-variants as store
+use Rattle.book.specs.Books.{Valid, opened, openInNumbers}
+use Rattle.book.specs.Grants.{granted, grantInNumbers}
+use Rattle.book.specs.Removals.{removed, removeInNumbers}
+use Rattle.stored.specs.declared.loads.LoadAnswer.the-variants as load
 use Rattle.stored.specs.declared.loads.Loaded.{Loaded}
 use Rattle.stored.specs.Forms.{storedForm}
-use Rattle.stored.specs.Storing.{lengthOf, storeAnswer, afterStore}
-use Rattle.stored.specs.Loading.{lengthWrong, loaded}
+use Rattle.stored.specs.Storing.{lengthOf, storeAnswer, afterStore, storeInNumbers}
+use Rattle.stored.specs.Loading.{lengthWrong, loaded, loadInNumbers}
 use Rattle.stored.proofs.StoreLaws.{form-length}
 use Rattle.stored.proofs.LoadLaws.{load-length}
 use Rattle.stored.proofs.Promised.{reads-back}
-use Rattle.export.specs.Outcomes.{Outcome, Given, Written, Refused}
-use Rattle.export.specs.BookCalls.{front, loadOutcome, storeOutcome, storing, openOutcome, grantOutcome, removeOutcome, grantOn, removeOn, openCall, grantCall, removeCall}
-use Rattle.export.specs.Promises.{RefusedLeaves, LengthPast, Holds, KeepsBook}
-use Rattle.export.proofs.OutcomeLaws.{front-short, front-whole, loaded-valid}
+use Rattle.export.specs.Outcomes.{Outcome, onSuccess}
+use Rattle.export.specs.BookCalls.{front, refusing, storing, changing, grantOn, removeOn, loadedThen, askedOf, openCall, grantCall}
+use Rattle.export.specs.BookCalls.{removeCall}
+use Rattle.export.specs.Histories.{RefusedLeaves, LengthPast, Kept, keptBy}
+use Rattle.export.proofs.OutcomeLaws.{front-short, front-whole, on-refusal, loaded-valid}
+
+-- an outcome that is no success has left the buffer
+abbrev Leaves : List ℕ → Outcome → Type 0
+Leaves buffer o = (o .answer .number ≡ 0 → ⊥) → o .buffer ≡ buffer
+
+leaves-step : (answer : InNumbers) (buffer : List ℕ) (next : Outcome) → Leaves buffer next
+    → Leaves buffer (onSuccess answer next (refusing answer buffer))
+leaves-step answer buffer next h = go (eqb (answer .number) 0)
+  where
+    go : (t : Bool) → Leaves buffer (cond t next (refusing answer buffer))
+    go true = h
+    go false = λ k. refl
+
+leaves-changing : (answer : InNumbers) (b : Book) (buffer : List ℕ) → Leaves buffer (changing answer b buffer)
+leaves-changing answer b buffer =
+    let stored = storeInNumbers (storeAnswer b buffer) in
+    let whole : Outcome = record { answer = gives (answer .values ++ stored .values); buffer = afterStore b buffer } in
+    leaves-step answer buffer (storing (answer .values) b buffer) (leaves-step stored buffer whole (λ k. absurd (k refl)))
+
+leaves-loaded : (buffer : List ℕ) (size : ℕ) (f : Book → Outcome) → ((b : Book) → Leaves buffer (f b))
+    → Leaves buffer (loadedThen buffer size f)
+leaves-loaded buffer size f h =
+    let l = loaded (front size buffer) in
+    leaves-step (loadInNumbers (l .answer)) buffer (f (l .book)) (h (l .book))
 
 pub refused-leaves : RefusedLeaves
-refused-leaves (Given values) buffer h = refl
-refused-leaves (Written values bytes) buffer h = absurd (h refl)
-refused-leaves (Refused r) buffer h = refl
+unfolding openCall grantCall removeCall
+refused-leaves = record {
+  opening = λ n w buffer. leaves-changing (openInNumbers (opened n w .answer)) (opened n w .book) buffer;
+  granting =
+      λ buffer size x y way colour.
+      leaves-loaded buffer size (λ (b : Book). grantOn b x y way colour buffer)
+      (λ b. leaves-changing (grantInNumbers (granted b x y way colour .answer)) (granted b x y way colour .book) buffer);
+  removing =
+      λ buffer size serial.
+      leaves-loaded buffer size (λ (b : Book). removeOn b serial buffer)
+      (λ b. leaves-changing (removeInNumbers (removed b serial .answer)) (removed b serial .book) buffer);
+}
 
 pub length-past : LengthPast
 unfolding lengthWrong
-length-past buffer size h = ap (λ (l : List ℕ). loaded l .answer) (sym (front-short size buffer h)) ∙ ap (λ (l : Loaded). l .answer) (sym (load-length [] refl))
+length-past buffer size h =
+    ap (λ (l : List ℕ). loaded l .answer) (sym (front-short size buffer h)) ∙ ap (λ (l : Loaded). l .answer) (sym (load-length [] refl))
+
+-- the first `size` bytes of the buffer load as this book
+abbrev pub Holds : Kept → Book → Type 0
+Holds kept b = loaded (front (kept .size) (kept .buffer)) ≡ record { answer = load.Loaded; book = b }
+
+module _ (kept : Kept) (b : Book) (h : Holds kept b) where
+  pub held-valid : Valid b
+  held-valid = loaded-valid (front (kept .size) (kept .buffer)) (sym h) refl
+
+  -- what a call comes to that loads it
+  pub changed-held : (f : Book → Outcome) → loadedThen (kept .buffer) (kept .size) f ≡ f b
+  changed-held f = ap (λ (l : Loaded).
+      onSuccess (loadInNumbers (l .answer)) (f (l .book)) (refusing (loadInNumbers (l .answer)) (kept .buffer))) h
+
+  pub asked-held : (f : Book → InNumbers) → askedOf (front (kept .size) (kept .buffer)) f ≡ f b
+  asked-held f = ap (λ (l : Loaded). onSuccess (loadInNumbers (l .answer)) (f (l .book)) (loadInNumbers (l .answer))) h
 
 -- a stored form with other bytes behind it
 front-form : (b : Book) (rest : List ℕ) → front (lengthOf b) (storedForm b ++ rest) ≡ storedForm b
@@ -50,67 +95,56 @@ front-form b rest =
     let h : lengthOf b ≤ length (storedForm b ++ rest) = omega (arith, length-append (storedForm b) rest, form-length b) in
     sym (front-whole (lengthOf b) (storedForm b ++ rest) h) ∙ take-at (storedForm b) rest (lengthOf b) (form-length b)
 
--- a book that was stored
-stored-holds : (given : List ℕ) (b : Book) → Valid b → (buffer values bytes : List ℕ) → storing given b buffer ≡ Written values bytes → (values ≡ given ++ (lengthOf b ∷ [])) × Holds bytes (lengthOf b) b
+-- the book after a call: 17 leaves the one that was there
+abbrev pub bookAfter : Outcome → Book → Book → Book
+bookAfter o b d = cond (eqb (o .answer .number) 17) b d
+
+-- a book is stored whole, or there is no room for it
+pub data Stores (values : List ℕ) (d : Book) (buffer : List ℕ) : Type 0 where
+  no-room : storing values d buffer ≡ refusing (refuses BufferShort) buffer → Stores values d buffer
+  whole : storing values d buffer
+      ≡ record { answer = gives (values ++ (lengthOf d ∷ [])); buffer = storedForm d ++ drop (lengthOf d) buffer } → Stores values d buffer
+
+pub stores : (values : List ℕ) (d : Book) (buffer : List ℕ) → Stores values d buffer
 unfolding storeAnswer afterStore
-stored-holds given b v buffer values bytes = go (ltb (length buffer) (lengthOf b))
+stores values d buffer = go (ltb (length buffer) (lengthOf d)) refl
   where
-    go : (t : Bool) → storeOutcome given (cond t (store.Refused BufferShort) (store.Stored (lengthOf b))) (cond t buffer (storedForm b ++ drop (lengthOf b) buffer)) ≡ Written values bytes → (values ≡ given ++ (lengthOf b ∷ [])) × Holds bytes (lengthOf b) b
-    go true e = let z : _≡_ {A = ℕ} 0 1 = cc in absurd (omega arith)
-    go false e =
-        let h : bytes ≡ storedForm b ++ drop (lengthOf b) buffer = cc in
-        (cc, ap (λ (l : List ℕ). loaded (front (lengthOf b) l)) h ∙ ap loaded (front-form b (drop (lengthOf b) buffer)) ∙ reads-back b v)
+    go : (t : Bool) → ltb (length buffer) (lengthOf d) ≡ t → Stores values d buffer
+    go true e = no-room (rw e refl)
+    go false e = whole (rw e refl)
 
--- open
-opened-allowed : (n w : ℕ) → opened n w .answer ≡ opening.Opened → ringVerdict n w ≡ verdict.Allowed
-unfolding opened
-opened-allowed n w = go (ringVerdict n w)
+-- a stored book is held
+pub whole-holds : (values : List ℕ) (entry : ℕ) (d : Book) (kept : Kept) → Valid d → getD (values ++ (lengthOf d ∷ [])) entry 0 ≡ lengthOf d
+    → Holds (keptBy kept entry
+    (record { answer = gives (values ++ (lengthOf d ∷ [])); buffer = storedForm d ++ drop (lengthOf d) (kept .buffer) })) d
+whole-holds values entry d kept v length-there =
+    ap (λ (size : ℕ). loaded (front size (storedForm d ++ drop (lengthOf d) (kept .buffer)))) length-there
+    ∙ ap loaded (front-form d (drop (lengthOf d) (kept .buffer)))
+    ∙ reads-back d v
+
+-- a change that is stored, or for which there is no room
+pub storing-holds : (kept : Kept) (b : Book) → Holds kept b → (values : List ℕ) (entry : ℕ) (d : Book) → Valid d
+    → getD (values ++ (lengthOf d ∷ [])) entry 0 ≡ lengthOf d
+    → Holds (keptBy kept entry (storing values d (kept .buffer))) (bookAfter (storing values d (kept .buffer)) b d)
+storing-holds kept b h values entry d v length-there = go (stores values d (kept .buffer))
   where
-    go : (v : Verdict) → openUnless v n w .answer ≡ opening.Opened → v ≡ verdict.Allowed
-    go verdict.Allowed e = refl
-    go (verdict.Refused r) e = let z : _≡_ {A = ℕ} 0 1 = cc in absurd (omega arith)
+    Held : Outcome → Type 0
+    Held o = Holds (keptBy kept entry o) (bookAfter o b d)
 
-open-keeps : (n w : ℕ) (buffer bytes : List ℕ) (size : ℕ) → openCall n w buffer ≡ Written (size ∷ []) bytes → Holds bytes size (opened n w .book)
-unfolding openCall
-open-keeps n w buffer bytes size = go (opened n w .answer) refl
+    go : Stores values d (kept .buffer) → Held (storing values d (kept .buffer))
+    go (no-room e) = subst Held (sym e) h
+    go (whole e) = subst Held (sym e) (whole-holds values entry d kept v length-there)
+
+-- a change that is refused, which leaves the book
+pub refusing-holds : (kept : Kept) (b : Book) → Holds kept b → (entry : ℕ) (r : Refusal) (next : Outcome) (d : Book) → d ≡ b
+    → let o = onSuccess (refuses r) next (refusing (refuses r) (kept .buffer)) in Holds (keptBy kept entry o) (bookAfter o b d)
+refusing-holds kept b h entry r next d e =
+    subst (λ (o : Outcome). Holds (keptBy kept entry o) (bookAfter o b d)) (sym (on-refusal r next (refusing (refuses r) (kept .buffer))))
+    (subst (λ (k : ℕ). loaded (front k (kept .buffer))
+    ≡ record { answer = load.Loaded; book = bookAfter (refusing (refuses r) (kept .buffer)) b d })
+    (sym (on-refusal r _ (kept .size)))
+    (h ∙ ap (λ (x : Book). record { answer = load.Loaded; book = x }) (sym (either (eqb (numberOf r) 17)))))
   where
-    go : (a : OpenAnswer) → opened n w .answer ≡ a → openOutcome a (opened n w .book) buffer ≡ Written (size ∷ []) bytes → Holds bytes size (opened n w .book)
-    go opening.Opened e f =
-        let s = stored-holds [] (opened n w .book) (keeps-valid .opening n w (opened-allowed n w e)) buffer (size ∷ []) bytes f in
-        let z : lengthOf (opened n w .book) ≡ size = cc (s .0) in
-        subst (λ (k : ℕ). Holds bytes k (opened n w .book)) z (s .1)
-    go (opening.Refused r) e f = let z : _≡_ {A = ℕ} 0 1 = cc in absurd (omega arith)
-
--- changes of a book that the buffer holds
-module _ (b : Book) (buffer : List ℕ) (size : ℕ) (h : Holds buffer size b) where
-  pub on-book : (f : Book → Outcome) → loadOutcome (loaded (front size buffer) .answer) (f (loaded (front size buffer) .book)) ≡ f b
-  on-book f = ap (λ (l : Loaded). loadOutcome (l .answer) (f (l .book))) h
-
-  pub held-valid : Valid b
-  held-valid = loaded-valid (front size buffer) (sym h) refl
-
-  grant-keeps : (x y way colour : ℕ) (bytes : List ℕ) (serial new : ℕ) → grantCall buffer size x y way colour ≡ Written (serial ∷ new ∷ []) bytes → (granted b x y way colour .answer ≡ grant.Granted serial) × Holds bytes new (granted b x y way colour .book)
-  unfolding grantCall
-  grant-keeps x y way colour bytes serial new e = go (granted b x y way colour .answer) refl (sym (on-book (λ (d : Book). grantOn d x y way colour buffer)) ∙ e)
-    where
-      go : (a : GrantAnswer) → granted b x y way colour .answer ≡ a → grantOutcome a (granted b x y way colour .book) buffer ≡ Written (serial ∷ new ∷ []) bytes → (granted b x y way colour .answer ≡ grant.Granted serial) × Holds bytes new (granted b x y way colour .book)
-      go (grant.Granted s) f g =
-          let t = stored-holds (s ∷ []) (granted b x y way colour .book) (keeps-valid .granting b held-valid x y way colour) buffer (serial ∷ new ∷ []) bytes g in
-          let same : lengthOf (granted b x y way colour .book) ≡ new = cc (t .0) in
-          let z : s ≡ serial = cc (t .0) in
-          (f ∙ ap grant.Granted z, subst (λ (k : ℕ). Holds bytes k (granted b x y way colour .book)) same (t .1))
-      go (grant.Refused r) f g = let z : _≡_ {A = ℕ} 0 1 = cc in absurd (omega arith)
-
-  remove-keeps : (serial : ℕ) (bytes : List ℕ) (new : ℕ) → removeCall buffer size serial ≡ Written (new ∷ []) bytes → (removed b serial .answer ≡ remove.Removed) × Holds bytes new (removed b serial .book)
-  unfolding removeCall
-  remove-keeps serial bytes new e = go (removed b serial .answer) refl (sym (on-book (λ (d : Book). removeOn d serial buffer)) ∙ e)
-    where
-      go : (a : RemoveAnswer) → removed b serial .answer ≡ a → removeOutcome a (removed b serial .book) buffer ≡ Written (new ∷ []) bytes → (removed b serial .answer ≡ remove.Removed) × Holds bytes new (removed b serial .book)
-      go remove.Removed f g =
-          let t = stored-holds [] (removed b serial .book) (keeps-valid .removing b held-valid serial) buffer (new ∷ []) bytes g in
-          let z : lengthOf (removed b serial .book) ≡ new = cc (t .0) in
-          (f, subst (λ (k : ℕ). Holds bytes k (removed b serial .book)) z (t .1))
-      go (remove.Refused r) f g = let z : _≡_ {A = ℕ} 0 1 = cc in absurd (omega arith)
-
-pub keeps-book : KeepsBook
-keeps-book = record { opening = open-keeps; granting = grant-keeps; removing = remove-keeps }
+    either : (t : Bool) → cond t b d ≡ b
+    either true = refl
+    either false = e

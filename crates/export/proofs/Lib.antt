@@ -1,4 +1,6 @@
--- The laws that the functions' proofs cite, and the theorems whose statements stand in specs/: Keeping (RefusedLeaves, LengthPast, KeepsBook), Room (RemovalFits).
+-- The laws that the functions' proofs cite, and the theorems whose statements stand in specs/: Keeping (RefusedLeaves, LengthPast),
+-- CallHistories, Room (RemovalFits).
 pub mod OutcomeLaws
 pub mod Keeping
+pub mod CallHistories
 pub mod Room

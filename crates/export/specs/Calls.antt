@@ -1,14 +1,13 @@
--- The promises of the calls: those of the operations, with the answer as numbers.
+-- The promises of the calls that plan and check: those of the operations, with the answer in numbers.
 use Prim.Native.Nat.{ℕ}
-use mathlib.Core.Path.{_≡_}
 use mathlib.Core.List.{List}
 use Rattle.planner.specs.declared.answers.PlanAnswer.{PlanAnswer}
+use Rattle.planner.specs.Plan.{planInNumbers}
 use Rattle.planner.specs.Promise.{PlanPromise}
-use Rattle.export.specs.Values.{planResult, planValues}
+use Rattle.export.specs.Outcomes.{Answered}
 
 -- plan: there is an answer that keeps plan's promise, and result and values are its numbers
 pub record PlanCall (n w : ℕ) (ends before after values values-after : List ℕ) (result : ℕ) : Type 0 where
   pub answer : PlanAnswer
   pub promise : PlanPromise n w ends before after answer
-  pub numbered : result ≡ planResult answer
-  pub filled : values-after ≡ planValues answer values
+  pub answered : Answered (planInNumbers answer) values values-after result

@@ -1,6 +1,5 @@
 -- The C interface: what each call answers, in numbers.
-pub mod Values
-pub mod Calls
 pub mod Outcomes
+pub mod Calls
 pub mod BookCalls
-pub mod Promises
+pub mod Histories

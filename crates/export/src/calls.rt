@@ -4,20 +4,21 @@ use super::values::put;
 use super::values::refused;
 use checker::CheckAnswer;
 use checker::check;
-use listing::answer;
+use plan_text::answer;
 use planner::PlanAnswer;
 use planner::Summary;
 use planner::plans::plan;
 ghost use mathlib.Core.Path.{_≡_};
-ghost use Rattle.checker.specs.Check.{checkAnswer};
-ghost use Rattle.listing.specs.Promise.{AnswerPromise};
+ghost use Rattle.checker.specs.Check.{checkAnswer, checkInNumbers};
+ghost use Rattle.plan_text.specs.Promise.{AnswerPromise};
 ghost use Rattle.planner.specs.declared.answers.PlanAnswer.the-variants.{Planned};
-ghost use Rattle.export.specs.Values.{planValues, checkResult, checkValues};
+ghost use Rattle.planner.specs.Plan.{planInNumbers};
+ghost use Rattle.export.specs.Outcomes.{putFrom, Answered};
 ghost use Rattle.export.specs.Calls.{PlanCall};
 
 // The counts and the part of a plan.
 fn put_summary(values: &mut [u16], summary: Summary)
-    ensures { λ _. ⌜ now (values .exit) ≡ planValues (Planned summary) (now (values .entry)) ⌝ }
+    ensures { λ _. ⌜ now (values .exit) ≡ putFrom 0 (planInNumbers (Planned summary) .values) (now (values .entry)) ⌝ }
 {
     let used = summary.used;
     put(values, 0, summary.chain);
@@ -35,7 +36,8 @@ pub extern "C" fn tarziloen_plan(
     table: &mut [u16],
     values: &mut [u16],
 ) -> u16
-    ensures { λ r. ⌜ PlanCall n w (now (ends .entry)) (now (table .entry)) (now (table .exit)) (now (values .entry)) (now (values .exit)) r ⌝ }
+    ensures { λ r. ⌜ PlanCall n w (now (ends .entry)) (now (table .entry)) (now (table .exit)) (now (values .entry))
+        (now (values .exit)) r ⌝ }
 {
     let answer = plan(n, w, ends, table);
     match answer {
@@ -56,7 +58,8 @@ pub extern "C" fn tarziloen_check(
     table: &[u16],
     values: &mut [u16],
 ) -> u16
-    ensures { λ r. ⌜ (r ≡ checkResult (checkAnswer n w (now (ends .entry)) (now (table .entry)))) × (now (values .exit) ≡ checkValues (checkAnswer n w (now (ends .entry)) (now (table .entry))) (now (values .entry))) ⌝ }
+    ensures { λ r. ⌜ Answered (checkInNumbers (checkAnswer n w (now (ends .entry)) (now (table .entry)))) (now (values .entry))
+        (now (values .exit)) r ⌝ }
 {
     let answer = check(n, w, ends, table);
     match answer {

@@ -22,7 +22,7 @@ ghost use Rattle.export.specs.BookCalls.{front, storing, grantOn, remove
 
 // Stores a book that was opened or has lost a circuit. Value: the length.
 fn keep(book: Book, buffer: &mut [u8], values: &mut [u16]) -> u16
-    ensures { λ r. ⌜ Changed (storing [] book (now (buffer .entry))) (now (buffer .entry)) (now (buffer .exit)) (now (values .entry)) (now (values .exit)) r ⌝ }
+    ensures { λ r. ⌜ Changed (storing [] book (now (buffer .entry))) (now (buffer .exit)) (now (values .entry)) (now (values .exit)) r ⌝ }
 {
     let answer = store(book, buffer);
     match answer {
@@ -37,7 +37,7 @@ fn keep(book: Book, buffer: &mut [u8], values: &mut [u16]) -> u16
 // Opens a book on n nodes with w colours and stores it. Value: the length of its stored form.
 #[no_mangle]
 pub extern "C" fn tarziloen_book_open(n: u16, w: u16, buffer: &mut [u8], values: &mut [u16]) -> u16
-    ensures { λ r. ⌜ Changed (openCall n w (now (buffer .entry))) (now (buffer .entry)) (now (buffer .exit)) (now (values .entry)) (now (values .exit)) r ⌝ }
+    ensures { λ r. ⌜ Changed (openCall n w (now (buffer .entry))) (now (buffer .exit)) (now (values .entry)) (now (values .exit)) r ⌝ }
 {
     let opened = open(n, w);
     let answer = opened.answer;
@@ -62,7 +62,8 @@ fn load_front(buffer: &[u8], length: usize) -> Loaded
 
 // Stores a book with a new circuit. Values: its serial, the length.
 fn keep_granted(book: Book, serial: u16, buffer: &mut [u8], values: &mut [u16]) -> u16
-    ensures { λ r. ⌜ Changed (storing (serial ∷ []) book (now (buffer .entry))) (now (buffer .entry)) (now (buffer .exit)) (now (values .entry)) (now (values .exit)) r ⌝ }
+    ensures { λ r. ⌜ Changed (storing (serial ∷ []) book (now (buffer .entry))) (now (buffer .exit)) (now (values .entry))
+        (now (values .exit)) r ⌝ }
 {
     let answer = store(book, buffer);
     match answer {
@@ -86,7 +87,8 @@ fn grant_in(
     values: &mut [u16],
 ) -> u16
     requires { ⌜ Valid book ⌝ }
-    ensures { λ r. ⌜ Changed (grantOn book x y way colour (now (buffer .entry))) (now (buffer .entry)) (now (buffer .exit)) (now (values .entry)) (now (values .exit)) r ⌝ }
+    ensures { λ r. ⌜ Changed (grantOn book x y way colour (now (buffer .entry))) (now (buffer .exit)) (now (values .entry))
+        (now (values .exit)) r ⌝ }
 {
     let granted = grant(book, x, y, way, colour);
     let answer = granted.answer;
@@ -110,7 +112,8 @@ pub extern "C" fn tarziloen_book_grant(
     colour: u16,
     values: &mut [u16],
 ) -> u16
-    ensures { λ r. ⌜ Changed (grantCall (now (buffer .entry)) length x y way colour) (now (buffer .entry)) (now (buffer .exit)) (now (values .entry)) (now (values .exit)) r ⌝ }
+    ensures { λ r. ⌜ Changed (grantCall (now (buffer .entry)) length x y way colour) (now (buffer .exit)) (now (values .entry))
+        (now (values .exit)) r ⌝ }
 {
     let loaded = load_front(buffer, length);
     let answer = loaded.answer;
@@ -125,7 +128,8 @@ pub extern "C" fn tarziloen_book_grant(
 
 // Removes an order from a book, and stores it.
 fn remove_in(book: Book, serial: u16, buffer: &mut [u8], values: &mut [u16]) -> u16
-    ensures { λ r. ⌜ Changed (removeOn book serial (now (buffer .entry))) (now (buffer .entry)) (now (buffer .exit)) (now (values .entry)) (now (values .exit)) r ⌝ }
+    ensures { λ r. ⌜ Changed (removeOn book serial (now (buffer .entry))) (now (buffer .exit)) (now (values .entry))
+        (now (values .exit)) r ⌝ }
 {
     let removed = remove(book, serial);
     let answer = removed.answer;
@@ -146,7 +150,8 @@ pub extern "C" fn tarziloen_book_remove(
     serial: u16,
     values: &mut [u16],
 ) -> u16
-    ensures { λ r. ⌜ Changed (removeCall (now (buffer .entry)) length serial) (now (buffer .entry)) (now (buffer .exit)) (now (values .entry)) (now (values .exit)) r ⌝ }
+    ensures { λ r. ⌜ Changed (removeCall (now (buffer .entry)) length serial) (now (buffer .exit)) (now (values .entry))
+        (now (values .exit)) r ⌝ }
 {
     let loaded = load_front(buffer, length);
     let answer = loaded.answer;

@@ -12,14 +12,14 @@ use stored::loads::LoadAnswer;
 use stored::loads::load;
 ghost use mathlib.Core.Path.{_≡_};
 ghost use Rattle.book.specs.declared.orders.ShowAnswer.the-variants.{Shown};
-ghost use Rattle.book.specs.Orders.{shown};
-ghost use Rattle.book.specs.Holders.{heldBy};
-ghost use Rattle.export.specs.Outcomes.{valuesOf, Answered};
-ghost use Rattle.export.specs.BookCalls.{showOutcome, holderOutcome, showCall, holderCall};
+ghost use Rattle.book.specs.Orders.{shown, showInNumbers};
+ghost use Rattle.book.specs.Holders.{heldBy, holderInNumbers};
+ghost use Rattle.export.specs.Outcomes.{putFrom, Answered};
+ghost use Rattle.export.specs.BookCalls.{showCall, holderCall};
 
 // The ends, the way and the colour of a circuit.
 fn put_circuit(values: &mut [u16], circuit: Circuit)
-    ensures { λ _. ⌜ now (values .exit) ≡ valuesOf (showOutcome (Shown circuit)) (now (values .entry)) ⌝ }
+    ensures { λ _. ⌜ now (values .exit) ≡ putFrom 0 (showInNumbers (Shown circuit) .values) (now (values .entry)) ⌝ }
 {
     let way = circuit.way;
     put(values, 0, circuit.a);
@@ -30,7 +30,7 @@ fn put_circuit(values: &mut [u16], circuit: Circuit)
 
 // Shows an order of a book.
 fn show_in(book: Book, serial: u16, values: &mut [u16]) -> u16
-    ensures { λ r. ⌜ Answered (showOutcome (shown book serial)) (now (values .entry)) (now (values .exit)) r ⌝ }
+    ensures { λ r. ⌜ Answered (showInNumbers (shown book serial)) (now (values .entry)) (now (values .exit)) r ⌝ }
 {
     let answer = show(book, serial);
     match answer {
@@ -60,7 +60,7 @@ pub extern "C" fn tarziloen_book_show(bytes: &[u8], serial: u16, values: &mut [u
 
 // The holder of a colour on a link, in a book.
 fn holder_in(book: Book, link: u16, colour: u16, values: &mut [u16]) -> u16
-    ensures { λ r. ⌜ Answered (holderOutcome (heldBy book link colour)) (now (values .entry)) (now (values .exit)) r ⌝ }
+    ensures { λ r. ⌜ Answered (holderInNumbers (heldBy book link colour)) (now (values .entry)) (now (values .exit)) r ⌝ }
 {
     let answer = holder(book, link, colour);
     match answer {

@@ -6,8 +6,9 @@ use ring::refusals::carried_by;
 use ring::refusals::number;
 ghost use mathlib.Core.Path.{_≡_};
 ghost use lib.ListN.{set};
-ghost use Rattle.ring.specs.Refusals.{numberOf, carriedBy};
-ghost use Rattle.export.specs.Values.{carriedIn, partNumber};
+ghost use Rattle.ring.specs.Answers.{carriedValues, refuses};
+ghost use Rattle.planner.specs.Plan.{partNumber};
+ghost use Rattle.export.specs.Outcomes.{putFrom, Answered};
 
 // Stores a value, if there is an entry for it.
 pub fn put(values: &mut [u16], at: usize, value: u16)
@@ -20,7 +21,7 @@ pub fn put(values: &mut [u16], at: usize, value: u16)
 
 // Stores what a refusal carries.
 fn put_carried(values: &mut [u16], carried: Carried)
-    ensures { λ _. ⌜ now (values .exit) ≡ carriedIn carried (now (values .entry)) ⌝ }
+    ensures { λ _. ⌜ now (values .exit) ≡ putFrom 0 (carriedValues carried) (now (values .entry)) ⌝ }
 {
     match carried {
         Carried::None => {}
@@ -34,7 +35,7 @@ fn put_carried(values: &mut [u16], carried: Carried)
 
 // The number of a refusal; what it carries goes into the slice.
 pub fn refused(refusal: Refusal, values: &mut [u16]) -> u16
-    ensures { λ r. ⌜ (r ≡ numberOf refusal) × (now (values .exit) ≡ carriedIn (carriedBy refusal) (now (values .entry))) ⌝ }
+    ensures { λ r. ⌜ Answered (refuses refusal) (now (values .entry)) (now (values .exit)) r ⌝ }
 {
     put_carried(values, carried_by(refusal));
     number(refusal)

@@ -19,7 +19,7 @@ use Rattle.sets.specs.Sets.{has}
 use Rattle.sets.proofs.BitLaws.{on, bit-zero, on-and, on-or}
 use Rattle.sets.proofs.TrailingLaws.{trailing-at}
 use Rattle.sets.proofs.SetLaws.{has-set, has-word, has-row, row-length}
-use Rattle.links.specs.Links.{held, Rows, Held}
+use Rattle.links.specs.Links.{held, LinkSets, Held}
 
 -- ---- a property of the links of a word
 
@@ -58,7 +58,8 @@ module _ (p : ℕ → Bool) (k v : ℕ) (h : v < 2 ^ 64) (word : (i : ℕ) → i
       | yes z ↦ impossible (cc)
       | no z ↦
           let found = some-found 64 (on v) (word-some v h z) in
-          found-some (64 * (k + 1)) p (64 * k + found .link) (omega (arith, found .below)) (sym (word (found .link) (found .below)) ∙ found .holds)
+          found-some (64 * (k + 1)) p (64 * k + found .link) (omega (arith, found .below)) (sym (word (found .link) (found .below))
+          ∙ found .holds)
     ]
   ]
 
@@ -74,12 +75,13 @@ neither false false = refl
 -- ---- the words below k are held
 
 pub record Done (rows now : List (List ℕ)) (way : Way) (request : Request) (colour k : ℕ) (free : Bool) : Type 0 where
-  pub shape : Rows now
-  pub links : (c link : ℕ) → c < 128 → held now c link ≡ (held rows c link || (eqb colour c && (ltb link (64 * k) && uses way request link)))
+  pub shape : LinkSets now
+  pub links : (c link : ℕ) → c < 128
+      → held now c link ≡ (held rows c link || (eqb colour c && (ltb link (64 * k) && uses way request link)))
   pub unheld : free ≡ not (someLink (64 * k) (λ link. uses way request link && held rows colour link))
 
 module _ (rows : List (List ℕ)) (way : Way) (request : Request) (colour : ℕ) where
-  pub done-start : Rows rows → Done rows rows way request colour 0 true
+  pub done-start : LinkSets rows → Done rows rows way request colour 0 true
   unfolding someLink
   done-start shape = record {
     shape = shape;
@@ -97,8 +99,10 @@ module _ (rows : List (List ℕ)) (way : Way) (request : Request) (colour : ℕ)
     unheld = s .unheld;
   }
 
-  module _ (now : List (List ℕ)) (k w : ℕ) (free still : Bool) (h : colour < 128) (l : k < 4) (s : Done rows now way request colour k free) (few : w < 2 ^ 64)
-      (word : (i : ℕ) → i < 64 → on w i ≡ uses way request (64 * k + i)) (tested : still ≡ (free && eqb (bitAnd (getD (getD now colour []) k 0) w) 0)) where
+  module _ (now : List (List ℕ)) (k w : ℕ) (free still : Bool) (h : colour < 128) (l : k < 4) (s : Done rows now way request colour k free)
+      (few : w < 2 ^ 64)
+      (word : (i : ℕ) → i < 64 → on w i ≡ uses way request (64 * k + i))
+      (tested : still ≡ (free && eqb (bitAnd (getD (getD now colour []) k 0) w) 0)) where
     row : List ℕ
     row = getD now colour []
 
@@ -115,7 +119,13 @@ module _ (rows : List (List ℕ)) (way : Way) (request : Request) (colour : ℕ)
     -- a link of word k, before and after
     before : (link : ℕ) → link / 64 ≡ k → on old (link % 64) ≡ held rows colour link
     unfolding row old
-    before link e = cc (has-word row k link e, s .links colour link h, eq-eqb colour colour refl, le-ltb link (64 * k) (omega arith), or-false (held rows colour link))
+    before link e = cc (
+      has-word row k link e,
+      s .links colour link h,
+      eq-eqb colour colour refl,
+      le-ltb link (64 * k) (omega arith),
+      or-false (held rows colour link),
+    )
 
     linked : (link : ℕ) → has (set row k (bitOr old w)) link ≡ (held rows colour link || (ltb link (64 * (k + 1)) && uses way request link))
     unfolding row
@@ -135,14 +145,21 @@ module _ (rows : List (List ℕ)) (way : Way) (request : Request) (colour : ℕ)
     both : (i : ℕ) → i < 64 → on (bitAnd old w) i ≡ (uses way request (64 * k + i) && held rows colour (64 * k + i))
     both i b =
         let place : (64 * k + i) % 64 ≡ i = omega arith in
-        cc (on-and old w i, before (64 * k + i) (omega arith), word i b, and-comm (uses way request (64 * k + i)) (held rows colour (64 * k + i)))
+        cc (
+          on-and old w i,
+          before (64 * k + i) (omega arith),
+          word i b,
+          and-comm (uses way request (64 * k + i)) (held rows colour (64 * k + i)),
+        )
 
-    pub done-turn : Done rows (set now colour (set (getD now colour []) k (bitOr (getD (getD now colour []) k 0) w))) way request colour (k + 1) still
+    pub done-turn : Done rows (set now colour (set (getD now colour []) k (bitOr (getD (getD now colour []) k 0) w))) way request colour
+        (k + 1) still
     unfolding row old
     done-turn = record {
       shape = record {
         many = length-set now colour (set row k (bitOr old w)) ∙ s .shape .many;
-        wide = λ c b. row-length now colour (set row k (bitOr old w)) inside c 4 (length-set row k (bitOr old w) ∙ wide) (s .shape .wide c b);
+        wide = λ c b. row-length now colour (set row k (bitOr old w)) inside c 4 (length-set row k (bitOr old w) ∙ wide)
+            (s .shape .wide c b);
       };
       links = λ c link b. has-row now colour (set row k (bitOr old w)) inside c link ∙ elim (test c colour) [
         | same e f ↦ cc (f, linked link)

@@ -7,16 +7,17 @@ use lib.Dec.{eqb}
 use lib.ListN.{length, getD, replicate, length-replicate, getD-replicate}
 use Rattle.ring.specs.declared.requests.Request.{Request}
 use Rattle.ring.specs.declared.ways.Way.{Way}
-use Rattle.ring.specs.Ways.{uses, someLink, sharing}
+use Rattle.ring.specs.Ways.{uses, someLink}
+use Rattle.ring.specs.Internal.Sharing.{sharing}
 use Rattle.ring.proofs.Cases.{eqb-refl, impossible}
 use Rattle.ring.proofs.WayLaws.{some-found, found-some, same-test, share-found, sharing-means}
 use Rattle.sets.specs.Sets.{has}
 use Rattle.sets.proofs.SetLaws.{has-zeros}
-use Rattle.links.specs.Links.{none, held, Rows, Placed, Held}
+use Rattle.links.specs.Links.{none, held, LinkSets, FitsSets, Held}
 
 -- the rows hold just these links in each colour
 pub record Holding (rows : List (List ℕ)) (taken : ℕ → ℕ → Bool) : Type 0 where
-  pub shape : Rows rows
+  pub shape : LinkSets rows
   pub exact : (c link : ℕ) → c < 128 → link < 256 → held rows c link ≡ taken c link
 
 -- at the start, none
@@ -38,17 +39,20 @@ some-same n p q h =
 
 module _ (rows after : List (List ℕ)) (way : Way) (r : Request) (colour : ℕ) (free : Bool) (s : Held rows after way r colour free) where
   -- then those of the way too, in its colour
-  pub holding-more : (taken more : ℕ → ℕ → Bool) → Holding rows taken → ((c link : ℕ) → more c link ≡ (taken c link || (eqb colour c && uses way r link))) → Holding after more
+  pub holding-more : (taken more : ℕ → ℕ → Bool) → Holding rows taken
+      → ((c link : ℕ) → more c link ≡ (taken c link || (eqb colour c && uses way r link))) → Holding after more
   holding-more taken more t h = record {
     shape = s .shape;
     exact = λ c link l b. s .links c link l b ∙ cc (t .exact c link l b, h c link);
   }
 
   -- it was free exactly if none of its links was taken in its colour
-  pub holding-free : (taken : ℕ → ℕ → Bool) → Holding rows taken → colour < 128 → free ≡ not (someLink 256 (λ link. uses way r link && taken colour link))
+  pub holding-free : (taken : ℕ → ℕ → Bool) → Holding rows taken → colour < 128
+      → free ≡ not (someLink 256 (λ link. uses way r link && taken colour link))
   holding-free taken t h =
       s .unheld
-      ∙ ap not (some-same 256 (λ link. uses way r link && held rows colour link) (λ link. uses way r link && taken colour link) (λ link b. ap (λ (x : Bool). uses way r link && x) (t .exact colour link h b)))
+      ∙ ap not (some-same 256 (λ link. uses way r link && held rows colour link) (λ link. uses way r link && taken colour link)
+      (λ link b. ap (λ (x : Bool). uses way r link && x) (t .exact colour link h b)))
 
   -- what was held still is, and the links of the way are
   pub held-still : (c link : ℕ) → c < 128 → link < 256 → held rows c link ≡ true → held after c link ≡ true
@@ -58,9 +62,11 @@ module _ (rows after : List (List ℕ)) (way : Way) (r : Request) (colour : ℕ)
   held-now link h l e = s .links colour link h l ∙ cc (eqb-refl colour, or-true (held rows colour link))
 
   -- a way whose links were held in its colour shares none with one that was free
-  pub free-apart : (v : Way) (q : Request) → Placed r colour → q .a < q .b → q .b < 256 → ((link : ℕ) → link < 256 → uses v q link ≡ true → held rows colour link ≡ true)
+  pub free-apart : (v : Way) (q : Request) → FitsSets r colour → q .a < q .b → q .b < 256
+      → ((link : ℕ) → link < 256 → uses v q link ≡ true → held rows colour link ≡ true)
       → free ≡ true → sharing v q way r ≡ true → ⊥
   free-apart v q p o b all f e =
       let shared = share-found 256 v q way r (sym (sharing-means 256 v q way r o b (p .ordered) (p .nodes)) ∙ e) in
-      let some = found-some 256 (λ link. uses way r link && held rows colour link) (shared .link) (shared .below) (cc (shared .second, all (shared .link) (shared .below) (shared .first))) in
+      let some = found-some 256 (λ link. uses way r link && held rows colour link) (shared .link) (shared .below)
+      (cc (shared .second, all (shared .link) (shared .below) (shared .first))) in
       impossible (cc (s .unheld))

@@ -33,7 +33,8 @@ module _ (t k i : ℕ) where
 
 -- ---- the links of a way, from those below its ends
 
-module _ (r : Request) (k i first last : ℕ) (h : r .a < r .b) (low : on first i ≡ ltb (64 * k + i) (r .a)) (high : on last i ≡ ltb (64 * k + i) (r .b)) where
+module _ (r : Request) (k i first last : ℕ) (h : r .a < r .b) (low : on first i ≡ ltb (64 * k + i) (r .a))
+    (high : on last i ≡ ltb (64 * k + i) (r .b)) where
   pub on-plain : on (bitXor last first) i ≡ uses Plain r (64 * k + i)
   unfolding uses xor
   on-plain = on-xor last first i ∙ elim (compare (64 * k + i) (r .a)) [

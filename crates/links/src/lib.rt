@@ -8,7 +8,7 @@ ghost use lib.Bits.{bitAnd};
 ghost use lib.Dec.{eqb, ltb};
 ghost use Rattle.ring.specs.Ways.{uses};
 ghost use Rattle.sets.specs.Sets.{bit};
-ghost use Rattle.links.specs.Links.{Rows, Placed, Held};
+ghost use Rattle.links.specs.Links.{LinkSets, FitsSets, Held};
 
 // Word k of the links below t.
 fn below(t: usize, k: usize) -> u64
@@ -46,7 +46,7 @@ fn still_free(free: bool, held: u64, links: u64) -> bool
 
 // Holds the links of a way in a colour, and says whether all of them were free.
 pub fn hold(held: &mut [[u64; 4]], way: Way, request: Request, colour: usize) -> bool
-    requires { ⌜ Rows (now held) × Placed request colour ⌝ }
+    requires { ⌜ LinkSets (now held) × FitsSets request colour ⌝ }
     ensures { λ r. ⌜ Held (now (held .entry)) (now (held .exit)) way request colour r ⌝ }
 {
     let mut free = true;

@@ -6,12 +6,12 @@ use mathlib.Core.List.{List, []}
 use mathlib.Core.Logic.{_⊎_, ⊎-elim}
 use native.Mathlib.Decide.{decLt}
 use native.Mathlib.Omega.{arith}
-use borrow.Author.Tests.{eqb-false}
 use lib.ListN.{getD}
+use borrow.Author.Tests.{eqb-false}
 use Rattle.ring.proofs.Cases.{Apart, same, different, test}
 use Rattle.sets.specs.Sets.{has}
-use Rattle.matching.specs.Rows.{cell, absorbedEntry, Readable, AbsorbedVertex, Absorbed}
-use Rattle.matching.specs.Search.{Square}
+use Rattle.matching.specs.Internal.Rows.{cell, absorbedEntry, Readable, AbsorbedVertex, Absorbed}
+use Rattle.matching.specs.Internal.Search.{Square}
 use Rattle.matching.proofs.RowLaws.{readable-turned}
 use Rattle.matching.proofs.MendLaws.{same-entry}
 
@@ -24,13 +24,15 @@ pub record AbsorbedBelow (n m : ℕ) (rows now : List (List ℕ)) (labels mates 
 
 module _ (m : ℕ) (rows : List (List ℕ)) (labels mates sides : List ℕ) (x y : ℕ) where
   pub absorb-start : Square m rows → AbsorbedBelow 0 m rows rows labels mates sides x y
-  absorb-start square = record { square = square; kept = λ v h e. refl; first = λ v z h. absurd (none v h); second = λ v z h. absurd (none v h) }
+  absorb-start square =
+      record { square = square; kept = λ v h e. refl; first = λ v z h. absurd (none v h); second = λ v z h. absurd (none v h) }
     where
       none : (v : ℕ) → v < 0 → ⊥
       none v h = omega arith
 
   -- vertices off the cycle get no row
-  pub absorb-skip : (cycle : List ℕ) (n next : ℕ) (now : List (List ℕ)) → ((v : ℕ) → v < m → has cycle v ≡ false → getD sides v 0 ≡ 0) → next ≤ m
+  pub absorb-skip : (cycle : List ℕ) (n next : ℕ) (now : List (List ℕ)) → ((v : ℕ) → v < m → has cycle v ≡ false → getD sides v 0 ≡ 0)
+      → next ≤ m
       → ((v : ℕ) → n ≤ v → v < next → has cycle v ≡ false) → AbsorbedBelow n m rows now labels mates sides x y
       → AbsorbedBelow next m rows now labels mates sides x y
   absorb-skip cycle n next now covered l none H =
@@ -77,7 +79,9 @@ module _ (m : ℕ) (rows : List (List ℕ)) (labels mates sides : List ℕ) (x y
             λ v z h k side.
             elim (test v n) [
               | same e t ↦
-                  rw e (vertex .second (rw e at side) z k ∙ same-entry m rows now labels mates (before .kept) y x n z (readable-turned readable) k)
+                  rw e
+                  (vertex .second (rw e at side) z k ∙ same-entry m rows now labels mates (before .kept) y x n z (readable-turned readable)
+                  k)
               | different d ↦ other v z d ∙ before .second v z (below v h d) k side
             ];
       }

@@ -1,6 +1,6 @@
 -- Adjacent requests: the relation is symmetric, and both are in the list and different.
 use Prim.Native.Nat.{ℕ, zero, suc, _<_, _≤_}
-use mathlib.Core.Path.{_≡_, refl, sym, _∙_}
+use mathlib.Core.Path.{_≡_, sym, _∙_}
 use mathlib.Core.Bool.{Bool, true, false, not, _&&_}
 use mathlib.Core.List.{List, [], _∷_}
 use native.Mathlib.Omega.{arith}
@@ -10,10 +10,10 @@ use borrow.Author.Tests.{ltb-true, lt-ltb}
 use Rattle.ring.specs.declared.requests.Request.{Request}
 use Rattle.ring.specs.Requests.{requestsOf, request}
 use Rattle.ring.specs.Chords.{compatible}
-use Rattle.ring.proofs.Cases.{same, different, test, impossible}
+use Rattle.ring.proofs.Cases.{same, different, test, and-true}
 use Rattle.ring.proofs.ChordLaws.{compatible-sym}
-use Rattle.blossom.proofs.Rows.{Symmetric, Mates}
-use Rattle.matching.specs.Adjacency.{adjacent}
+use Rattle.blossom.specs.Internal.Rows.{Symmetric, Mates}
+use Rattle.matching.specs.Internal.Adjacency.{adjacent}
 
 -- the smaller end of a request comes first
 ordered : (ends : List ℕ) (i : ℕ) → request (requestsOf ends) i .a ≤ request (requestsOf ends) i .b
@@ -44,21 +44,20 @@ module _ (ends : List ℕ) where
       (swapped (eqb a b) (eqb b a) (ltb a (length R)) (ltb b (length R)) (compatible (request R b) (request R a)) (eqb-comm a b))
 
 module _ (R : List Request) (a b : ℕ) where
-  parts : (d p q c : Bool) → (not d && (p && (q && c))) ≡ true → (d ≡ false) × (p ≡ true) × (q ≡ true) × (c ≡ true)
-  parts true p q c e = impossible (sym e)
-  parts false false q c e = impossible (sym e)
-  parts false true false c e = impossible (sym e)
-  parts false true true c e = (refl, refl, refl, e)
+  parts : (d p q c : Bool) → (d && (p && (q && c))) ≡ true → (q ≡ true) × (c ≡ true)
+  parts d p q c e = and-true q c (and-true p (q && c) (and-true d (p && (q && c)) e .1) .1)
 
   pub adjacent-inside : adjacent R a b ≡ true → b < length R
   unfolding adjacent
-  adjacent-inside e = ltb-true b (length R) (parts (eqb a b) (ltb a (length R)) (ltb b (length R)) (compatible (request R a) (request R b)) e .2)
+  adjacent-inside e =
+      ltb-true b (length R) (parts (not (eqb a b)) (ltb a (length R)) (ltb b (length R)) (compatible (request R a) (request R b)) e .0)
 
   pub adjacent-are-compatible : adjacent R a b ≡ true → compatible (request R a) (request R b) ≡ true
   unfolding adjacent
-  adjacent-are-compatible e = parts (eqb a b) (ltb a (length R)) (ltb b (length R)) (compatible (request R a) (request R b)) e .3
+  adjacent-are-compatible e = parts (not (eqb a b)) (ltb a (length R)) (ltb b (length R)) (compatible (request R a) (request R b)) e .1
 
-pub adjacent-if : (R : List Request) (a b : ℕ) → eqb a b ≡ false → a < length R → b < length R → compatible (request R a) (request R b) ≡ true → adjacent R a b ≡ true
+pub adjacent-if : (R : List Request) (a b : ℕ) → eqb a b ≡ false → a < length R → b < length R
+    → compatible (request R a) (request R b) ≡ true → adjacent R a b ≡ true
 unfolding adjacent
 adjacent-if R a b n h k e = cc (lt-ltb a (length R) h, lt-ltb b (length R) k)
 

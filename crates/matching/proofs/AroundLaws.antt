@@ -7,22 +7,24 @@ use native.Mathlib.Omega.{arith}
 use lib.Dec.{eqb, ltb}
 use lib.ListN.{length, getD}
 use borrow.Author.Tests.{eqb-true, eq-eqb, ne-eqb, lt-ltb}
-use Rattle.ring.proofs.Cases.{yes, no, is, impossible}
 use Rattle.ring.specs.declared.requests.Request.{Request}
+use Rattle.ring.proofs.Cases.{yes, no, is, impossible}
 use Rattle.sets.specs.Sets.{has}
 use Rattle.neighbours.specs.Neighbours.{Neighbours}
-use Rattle.matching.specs.Adjacency.{adjacent}
-use Rattle.matching.specs.Progress.{freeIn, apartIn, relevantIn, First}
+use Rattle.matching.specs.Internal.Adjacency.{adjacent}
+use Rattle.matching.specs.Internal.Progress.{freeIn, apartIn, relevantIn, First}
 use Rattle.matching.proofs.FirstLaws.{first-alike}
 
-pub around-none : (R : List Request) (x : ℕ) (set : List ℕ) (y : ℕ) → Neighbours R x set → y < length R → has set y ≡ false → adjacent R x y ≡ false
+pub around-none : (R : List Request) (x : ℕ) (set : List ℕ) (y : ℕ) → Neighbours R x set → y < length R → has set y ≡ false
+    → adjacent R x y ≡ false
 unfolding adjacent
 around-none R x set y N l e = let c = N .compatible y l in elim (is (eqb x y)) [
   | yes f ↦ cc
   | no f ↦ elim (is (ltb x (length R))) [ yes g ↦ cc (lt-ltb y (length R) l) | no g ↦ cc ]
 ]
 
-pub around-some : (R : List Request) (x : ℕ) (set : List ℕ) (y : ℕ) → Neighbours R x set → x < length R → y < length R → (x ≡ y → ⊥) → has set y ≡ true
+pub around-some : (R : List Request) (x : ℕ) (set : List ℕ) (y : ℕ) → Neighbours R x set → x < length R → y < length R → (x ≡ y → ⊥)
+    → has set y ≡ true
     → adjacent R x y ≡ true
 unfolding adjacent
 around-some R x set y N k l d e = cc (N .compatible y l, ne-eqb x y d, lt-ltb x (length R) k, lt-ltb y (length R) l)
@@ -49,12 +51,16 @@ module _ (around labels : List ℕ) (y : ℕ) where
   unfolding freeIn
   free-member e = elim (is (eqb (getD labels y 0) 0)) [ yes f ↦ cc | no f ↦ impossible (cc) ]
 
-  pub free-neighbour : (R : List Request) (x : ℕ) → Neighbours R x around → getD labels x 0 ≡ 1 → x < length R → y < length R → freeIn around labels y ≡ true
+  pub free-neighbour : (R : List Request) (x : ℕ) → Neighbours R x around → getD labels x 0 ≡ 1 → x < length R → y < length R
+      → freeIn around labels y ≡ true
       → adjacent R x y ≡ true
-  free-neighbour R x N lx k l e = around-some R x around y N k l (λ d. differ (getD labels x 0) (getD labels y 0) lx (free-label e) (ap (λ (z : ℕ). getD labels z 0) d)) (free-member e)
+  free-neighbour R x N lx k l e =
+      around-some R x around y N k l
+      (λ d. not-both (getD labels x 0) (getD labels y 0) lx (free-label e) (ap (λ (z : ℕ). getD labels z 0) d))
+      (free-member e)
     where
-      differ : (a b : ℕ) → a ≡ 1 → b ≡ 0 → a ≡ b → ⊥
-      differ a b e f g = impossible (cc)
+      not-both : (a b : ℕ) → a ≡ 1 → b ≡ 0 → a ≡ b → ⊥
+      not-both a b e f g = impossible (cc)
 
 -- free ones, and even ones of another class
 module _ (around labels bases : List ℕ) (x y : ℕ) where
@@ -75,27 +81,32 @@ unfoldable pub relevant : List Request → List ℕ → List ℕ → ℕ → ℕ
 relevant R labels bases x y =
     (eqb (getD labels y 0) 0 || eqb (getD labels y 0) 1 && not (eqb (getD bases x 0) (getD bases y 0))) && adjacent R x y
 
-module _ (R : List Request) (around labels bases : List ℕ) (x : ℕ) (N : Neighbours R x around) (lx : getD labels x 0 ≡ 1) (k : x < length R) where
-  not-itself : (y : ℕ) → apartIn labels bases x y ≡ true → x ≡ y → ⊥
-  unfolding apartIn
-  not-itself y p e = itself (getD labels y 0) (getD bases x 0) (getD bases y 0) (sym (ap (λ (z : ℕ). getD labels z 0) e) ∙ lx) (ap (λ (z : ℕ). getD bases z 0) e) p
-    where
-      itself : (l a b : ℕ) → l ≡ 1 → a ≡ b → (eqb l 0 || eqb l 1 && not (eqb a b)) ≡ true → ⊥
-      itself l a b e f p = impossible (cc (eq-eqb a b f))
+module _ (R : List Request) (around labels bases : List ℕ) (x : ℕ) (N : Neighbours R x around) (lx : getD labels x 0 ≡ 1) (k : x < length R)
+  where
+    not-itself : (y : ℕ) → apartIn labels bases x y ≡ true → x ≡ y → ⊥
+    unfolding apartIn
+    not-itself y p e =
+        itself (getD labels y 0) (getD bases x 0) (getD bases y 0) (sym (ap (λ (z : ℕ). getD labels z 0) e) ∙ lx)
+        (ap (λ (z : ℕ). getD bases z 0) e) p
+      where
+        itself : (l a b : ℕ) → l ≡ 1 → a ≡ b → (eqb l 0 || eqb l 1 && not (eqb a b)) ≡ true → ⊥
+        itself l a b e f p = impossible (cc (eq-eqb a b f))
 
-  relevant-edge : (y : ℕ) → y < length R → relevantIn around labels bases x y ≡ relevant R labels bases x y
-  unfolding relevantIn relevant apartIn
-  relevant-edge y l = elim (is (apartIn labels bases x y)) [
-    | no f ↦ cc
-    | yes f ↦ elim (is (has around y)) [
-      | yes g ↦ cc (around-some R x around y N k l (not-itself y f) g)
-      | no g ↦ cc (around-none R x around y N l g)
+    relevant-edge : (y : ℕ) → y < length R → relevantIn around labels bases x y ≡ relevant R labels bases x y
+    unfolding relevantIn relevant apartIn
+    relevant-edge y l = elim (is (apartIn labels bases x y)) [
+      | no f ↦ cc
+      | yes f ↦ elim (is (has around y)) [
+        | yes g ↦ cc (around-some R x around y N k l (not-itself y f) g)
+        | no g ↦ cc (around-none R x around y N l g)
+      ]
     ]
-  ]
 
-  -- the first one is the end of the first such edge
-  pub first-relevant : (from m n : ℕ) → m ≡ length R → First (relevantIn around labels bases x) from m n → First (relevant R labels bases x) from m n
-  first-relevant from m n e F = first-alike (relevantIn around labels bases x) (relevant R labels bases x) from m n (λ z h. relevant-edge z (omega (arith, e))) F
+    -- the first one is the end of the first such edge
+    pub first-relevant : (from m n : ℕ) → m ≡ length R → First (relevantIn around labels bases x) from m n
+        → First (relevant R labels bases x) from m n
+    first-relevant from m n e F =
+        first-alike (relevantIn around labels bases x) (relevant R labels bases x) from m n (λ z h. relevant-edge z (omega (arith, e))) F
 
 -- the test of the code, by the ways through it
 module _ (labels bases : List ℕ) (x y : ℕ) where

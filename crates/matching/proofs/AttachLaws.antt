@@ -8,22 +8,23 @@ use lib.Dec.{eqb}
 use lib.ListN.{length, getD}
 use lib.Seq.{getD-set-other}
 use borrow.Author.Tests.{ne-eqb}
-use Rattle.ring.proofs.Cases.{impossible}
 use Rattle.ring.specs.declared.requests.Request.{Request}
-use Rattle.blossom.proofs.Labels.{Free, Even}
-use Rattle.blossom.proofs.Rows.{Symmetric}
-use Rattle.blossom.proofs.Scanning.{Searching}
-use Rattle.matching.specs.Adjacency.{adjacent}
-use Rattle.matching.specs.Arrays.{Arrays}
-use Rattle.matching.specs.Model.{entry, labelOf, among}
-use Rattle.matching.specs.Search.{Standing, Settled, SearchAt, ScanAt, Outcome}
-use Rattle.matching.specs.Steps.{enlargedArrays, Attachable, Attached, enlarges, grows}
+use Rattle.ring.proofs.Cases.{impossible}
+use Rattle.blossom.specs.Internal.Labels.{Free, Even}
+use Rattle.blossom.specs.Internal.Rows.{Symmetric}
+use Rattle.blossom.specs.Internal.Searches.{Searching}
+use Rattle.matching.specs.Internal.Adjacency.{adjacent}
+use Rattle.matching.specs.Internal.Arrays.{Arrays}
+use Rattle.matching.specs.Internal.Model.{entry, labelOf, among}
+use Rattle.matching.specs.Internal.Search.{Standing, Settled, SearchAt, ScanAt, SearchOutcome}
+use Rattle.matching.specs.Internal.Steps.{enlargedArrays, Attachable, Attached, enlarges, grows}
 use Rattle.matching.proofs.ModelLaws.{entry-inside}
 use Rattle.matching.proofs.StandingLaws.{even-inside, mate-inside, label-number}
 use Rattle.matching.proofs.EnlargeLaws.{enlarge-settled}
 use Rattle.matching.proofs.GrowLaws.{grow-room, grown-stands, search-grows, grow-stands}
 
-module _ (R : List Request) (symmetric : Symmetric (adjacent R)) (r : ℕ) (s : Arrays) (rows : List (List ℕ)) (T : Standing R r s rows) (scanned : ℕ → Bool)
+module _ (R : List Request) (symmetric : Symmetric (adjacent R)) (r : ℕ) (s : Arrays) (rows : List (List ℕ)) (T : Standing R r s rows)
+    (scanned : ℕ → Bool)
     (S : Searching (adjacent R) (entry (length R) (s .mates)) (T .frozen-label) (T .frozen-base) r (T .state) scanned)
     (x y : ℕ) (ex : T .state .label x ≡ Even) (l : y < length R) (f : getD (s .labels) y 0 ≡ 0) (a : adjacent R x y ≡ true) where
   y-free : T .state .label y ≡ Free
@@ -56,8 +57,9 @@ module _ (R : List Request) (symmetric : Symmetric (adjacent R)) (r : ℕ) (s : 
   enlarged-by e = enlarge-settled R symmetric r s rows T scanned S x y ex l y-free (entry-inside (length R) (s .mates) y l ∙ e) a
 
   -- no vertex is being scanned
-  pub search-attached : (h : ℕ) → h ≤ s .clock → ((z : ℕ) → scanned z ≡ among (s .queue) h z) → (t : Arrays) (after : List (List ℕ)) (done : Bool)
-      → Attached s rows x y t after done → Outcome R r t after done (SearchAt R r t after h)
+  pub search-attached : (h : ℕ) → h ≤ s .clock → ((z : ℕ) → scanned z ≡ among (s .queue) h z)
+      → (t : Arrays) (after : List (List ℕ)) (done : Bool)
+      → Attached s rows x y t after done → SearchOutcome R r t after done (SearchAt R r t after h)
   search-attached h w i t after done (enlarges e d et er) = record {
     square = rw er (T .square);
     enlarged = λ u. rw et (enlarged-by e);
@@ -72,12 +74,15 @@ module _ (R : List Request) (symmetric : Symmetric (adjacent R)) (r : ℕ) (s : 
       }
 
 -- x is being scanned, and y comes next
-pub scan-attached : (R : List Request) → Symmetric (adjacent R) → (r : ℕ) (s : Arrays) (rows : List (List ℕ)) (h x y : ℕ) → ScanAt R r s rows h x y
+pub scan-attached : (R : List Request) → Symmetric (adjacent R) → (r : ℕ) (s : Arrays) (rows : List (List ℕ)) (h x y : ℕ)
+    → ScanAt R r s rows h x y
     → y < length R → getD (s .labels) y 0 ≡ 0 → adjacent R x y ≡ true → (t : Arrays) (after : List (List ℕ)) (done : Bool)
-    → Attached s rows x y t after done → Outcome R r t after done (ScanAt R r t after h x (y + 1))
+    → Attached s rows x y t after done → SearchOutcome R r t after done (ScanAt R r t after h x (y + 1))
 scan-attached R symmetric r s rows h x y at l f a t after done (enlarges e d et er) = record {
   square = rw er (at .standing .square);
-  enlarged = λ u. rw et (enlarged-by R symmetric r s rows (at .standing) (at .scanned) (at .scanning .search) x y (at .scanning .partly .x-even) l f a e);
+  enlarged = λ u.
+      rw et
+      (enlarged-by R symmetric r s rows (at .standing) (at .scanned) (at .scanning .search) x y (at .scanning .partly .x-even) l f a e);
   going = λ u. impossible (cc);
 }
 scan-attached R symmetric r s rows h x y at l f a t after done (grows c ec n d et er) =
@@ -93,7 +98,8 @@ scan-attached R symmetric r s rows h x y at l f a t after done (grows c ec n d e
     }
 
 -- what is queued stays where it is
-pub attached-queue : (s : Arrays) (rows : List (List ℕ)) (x y : ℕ) (t : Arrays) (after : List (List ℕ)) (done : Bool) → Attached s rows x y t after done
+pub attached-queue : (s : Arrays) (rows : List (List ℕ)) (x y : ℕ) (t : Arrays) (after : List (List ℕ)) (done : Bool)
+    → Attached s rows x y t after done
     → (g : ℕ) → g < s .clock → (getD (t .queue) g 0 ≡ getD (s .queue) g 0) × (g < t .clock)
 attached-queue s rows x y t after done (enlarges e d et er) g l = rw et (refl, l)
 attached-queue s rows x y t after done (grows c ec n d et er) g l =

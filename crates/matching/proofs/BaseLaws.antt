@@ -10,9 +10,9 @@ use lib.ListN.{length, getD, set, replicate, length-set}
 use borrow.Author.Tests.{eqb-true, eqb-false, lt-ltb}
 use Rattle.ring.proofs.Cases.{yes, no, is, same, different, test, less, not-less, compare}
 use Rattle.sets.specs.Sets.{has}
-use Rattle.matching.specs.Model.{among}
-use Rattle.matching.specs.Steps.{baseOn, joinsBlossom, newBase}
-use Rattle.matching.specs.Bases.{hasBelow, Rebased}
+use Rattle.matching.specs.Internal.Model.{among}
+use Rattle.matching.specs.Internal.Steps.{baseOn, joinsBlossom, newBase}
+use Rattle.matching.specs.Internal.Bases.{hasBelow, Rebased}
 use Rattle.matching.proofs.RowLaws.{entry-set}
 
 -- no vertex
@@ -22,7 +22,8 @@ rebased-none b given bases joined wide words none =
     record { bases-length = wide; joined-length = words; base = λ z. cc (none z); member = λ z. cc (none z) }
 
 -- one vertex
-pub rebased-one : (b z : ℕ) (these : ℕ → Bool) (bases joined joined' : List ℕ) → ((y : ℕ) → these y ≡ eqb y z) → length bases ≡ 512 → z < 512
+pub rebased-one : (b z : ℕ) (these : ℕ → Bool) (bases joined joined' : List ℕ) → ((y : ℕ) → these y ≡ eqb y z) → length bases ≡ 512
+    → z < 512
     → length joined' ≡ 8 → ((y : ℕ) → has joined' y ≡ (eqb y z || has joined y)) → Rebased b these bases joined (set bases z b) joined'
 rebased-one b z these bases joined joined' are wide inside words member = record {
   bases-length = length-set bases z b ∙ wide;
@@ -34,11 +35,15 @@ rebased-one b z these bases joined joined' are wide inside words member = record
 -- one vertex, by whether its base is on
 module _ (b z : ℕ) (bases on joined : List ℕ) (wide : length bases ≡ 512) where
   pub vertex-on : (joined' : List ℕ) → eqb (getD on (getD bases z 0) 0) 0 ≡ false → z < 512 → length joined' ≡ 8
-      → ((y : ℕ) → has joined' y ≡ (eqb y z || has joined y)) → Rebased b (λ y. eqb y z && baseOn bases on z) bases joined (set bases z b) joined'
-  vertex-on joined' e = rebased-one b z (λ y. eqb y z && baseOn bases on z) bases joined joined' (λ y. elim (is (eqb y z)) [ yes t ↦ cc | no t ↦ cc ]) wide
+      → ((y : ℕ) → has joined' y ≡ (eqb y z || has joined y))
+      → Rebased b (λ y. eqb y z && baseOn bases on z) bases joined (set bases z b) joined'
+  vertex-on joined' e =
+      rebased-one b z (λ y. eqb y z && baseOn bases on z) bases joined joined' (λ y. elim (is (eqb y z)) [ yes t ↦ cc | no t ↦ cc ]) wide
 
-  pub vertex-off : eqb (getD on (getD bases z 0) 0) 0 ≡ true → length joined ≡ 8 → Rebased b (λ y. eqb y z && baseOn bases on z) bases joined bases joined
-  vertex-off e words = rebased-none b (λ y. eqb y z && baseOn bases on z) bases joined wide words (λ y. elim (is (eqb y z)) [ yes t ↦ cc | no t ↦ cc ])
+  pub vertex-off : eqb (getD on (getD bases z 0) 0) 0 ≡ true → length joined ≡ 8
+      → Rebased b (λ y. eqb y z && baseOn bases on z) bases joined bases joined
+  vertex-off e words =
+      rebased-none b (λ y. eqb y z && baseOn bases on z) bases joined wide words (λ y. elim (is (eqb y z)) [ yes t ↦ cc | no t ↦ cc ])
 
 -- more vertices
 pub rebased-more : {b : ℕ} {given these : ℕ → Bool} {bases joined now joined' after joined'' : List ℕ} (given' : ℕ → Bool)
@@ -52,7 +57,8 @@ rebased-more {these = these} given' H one more = record {
 }
 
 -- a base is below m still
-pub rebased-inside : {b : ℕ} {given : ℕ → Bool} {bases joined after joined' : List ℕ} (m : ℕ) → Rebased b given bases joined after joined' → b < m
+pub rebased-inside : {b : ℕ} {given : ℕ → Bool} {bases joined after joined' : List ℕ} (m : ℕ) → Rebased b given bases joined after joined'
+    → b < m
     → (z : ℕ) → getD bases z 0 < m → getD after z 0 < m
 rebased-inside {b} {given} {bases} {joined} {after} m H inside z l = elim (is (given z)) [
   | yes t ↦ let e : getD after z 0 ≡ b = cc (H .base z) in omega arith
@@ -60,7 +66,8 @@ rebased-inside {b} {given} {bases} {joined} {after} m H inside z l = elim (is (g
 ]
 
 -- the queue has one vertex more, z: `seen` says whether it was there before, `on` and `now` whether its base was on and is on
-queue-test : (here seen on now : Bool) → (here ≡ true → (seen && on) ≡ false → now ≡ on) → ((here || seen) && on) ≡ (here && now || seen && on)
+queue-test : (here seen on now : Bool) → (here ≡ true → (seen && on) ≡ false → now ≡ on)
+    → ((here || seen) && on) ≡ (here && now || seen && on)
 queue-test false seen on now h = refl
 queue-test true true true true h = refl
 queue-test true true true false h = refl
@@ -71,7 +78,8 @@ queue-test true false false now h = cc (h refl refl)
 pub queued-turn : {b : ℕ} {bases joined now joined' : List ℕ} (queue on : List ℕ) (i z : ℕ) → z ≡ getD queue i 0
     → Rebased b (λ y. among queue i y && baseOn bases on y) bases joined now joined'
     → (y : ℕ) → (among queue (i + 1) y && baseOn bases on y) ≡ (eqb y z && baseOn now on z || among queue i y && baseOn bases on y)
-queued-turn {b} {bases} {joined} {now} queue on i z e H y = rw add-one (rw (sym e) (queue-test (eqb y z) (among queue i y) (baseOn bases on y) (baseOn now on z)
+queued-turn {b} {bases} {joined} {now} queue on i z e H y =
+    rw add-one (rw (sym e) (queue-test (eqb y z) (among queue i y) (baseOn bases on y) (baseOn now on z)
     (λ t n. let f : y ≡ z = eqb-true y z t in cc (H .base y))))
 
 -- a loop over a set: no vertex before the first one, and one more

@@ -7,26 +7,28 @@ use native.Mathlib.Numerals.{add-one}
 use native.Mathlib.Omega.{arith}
 use lib.ListN.{length, getD}
 use borrow.Author.Tests.{eqb-true, lt-ltb}
+use Rattle.ring.specs.declared.requests.Request.{Request}
 use Rattle.ring.proofs.Cases.{yes, no, is, same, different, test, less, not-less, compare, impossible}
 use Rattle.ring.proofs.Counting.{count, bit, sum-ext, sum-add, count-le, count-true, count-split}
-use Rattle.ring.specs.declared.requests.Request.{Request}
-use Rattle.blossom.proofs.Labels.{Even, Odd, even?, is-free, is-even, is-odd, is-frozen, label-case}
-use Rattle.blossom.proofs.Rows.{Symmetric}
-use Rattle.blossom.proofs.State.{State, below, Invariant}
-use Rattle.blossom.proofs.Blossom.{merged, shrunk, NewOrders}
+use Rattle.blossom.specs.Internal.Labels.{Even, Odd, even?}
+use Rattle.blossom.specs.Internal.Rows.{Symmetric}
+use Rattle.blossom.specs.Internal.State.{State, below, Invariant}
+use Rattle.blossom.proofs.LabelLaws.{is-free, is-even, is-odd, is-frozen, label-case}
+use Rattle.blossom.proofs.Shrunk.{merged, shrunk, NewOrders}
 use Rattle.blossom.proofs.Cycle.{cycle, cycle-odd}
 use Rattle.blossom.proofs.Scanning.{scan-blossom}
-use Rattle.matching.specs.Arrays.{Arrays, arrays}
-use Rattle.matching.specs.Adjacency.{adjacent}
-use Rattle.matching.specs.Model.{entry, rowAt, labelOf, labelAt, settledOf, settledAt, among}
-use Rattle.matching.specs.Climbs.{Marks}
-use Rattle.matching.specs.Rows.{cell, Absorbed}
-use Rattle.matching.specs.Search.{Square, Stands, Standing, ScanAt}
-use Rattle.matching.specs.Steps.{onCycle, joinsBlossom, newBase, Promoted}
+use Rattle.matching.specs.Internal.Arrays.{Arrays, arrays}
+use Rattle.matching.specs.Internal.Adjacency.{adjacent}
+use Rattle.matching.specs.Internal.Model.{entry, rowAt, labelOf, labelAt, settledOf, settledAt, among}
+use Rattle.matching.specs.Internal.Climbs.{Marks}
+use Rattle.matching.specs.Internal.Rows.{cell, Absorbed}
+use Rattle.matching.specs.Internal.Search.{Square, Stands, Standing, ScanAt}
+use Rattle.matching.specs.Internal.Steps.{onCycle, joinsBlossom, newBase, Promoted}
 use Rattle.matching.proofs.ModelLaws.{entry-inside}
 use Rattle.matching.proofs.StandingLaws.{count-room, even-inside, odd-inside, entry-outside, unfrozen}
 use Rattle.matching.proofs.ClosingLaws.{Closed}
-use Rattle.matching.proofs.CycleLaws.{is-even-number, on-cycle, side-first, side-second, absorbed-inside, absorbed-outside, label-inside}
+use Rattle.matching.proofs.CycleLaws.{is-even-number, on-cycle, side-first, side-second}
+use Rattle.matching.proofs.CycleLaws.{absorbed-inside, absorbed-outside, label-inside}
 
 -- a set with a member below m is not empty
 count-some : (p : ℕ → Bool) (z m : ℕ) → z < m → p z ≡ true → 0 < count p m
@@ -86,19 +88,23 @@ module _ (R : List Request) (symmetric : Symmetric (adjacent R)) (r : ℕ) (s : 
   )
 
   pub cycle-room : s .clock + count (onCycle m sides) m ≤ 512
-  cycle-room = omega (arith, T .sized .few, count-both, count-le (λ z. A z || even? (state .label z)) (λ z. true) m (λ z l e. refl), count-true m)
+  cycle-room =
+      omega (arith, T .sized .few, count-both, count-le (λ z. A z || even? (state .label z)) (λ z. true) m (λ z l e. refl), count-true m)
 
   base-inside : (z : ℕ) → z < m → state .base z < m
   base-inside z l = rw (T .stands .base-is z ∙ entry-inside m (s .bases) z l) (T .sized .bases-inside z l)
 
   -- the class of the blossom
-  pub joins-is : (z : ℕ) → z < m → joinsBlossom (s .bases) (s .queue) (s .clock) (found .cycle) (found .bases-on) z ≡ (A z || even? (state .label z) && A (M (state .base z)))
+  pub joins-is : (z : ℕ) → z < m
+      → joinsBlossom (s .bases) (s .queue) (s .clock) (found .cycle) (found .bases-on) z
+      ≡ (A z || even? (state .label z) && A (M (state .base z)))
   unfolding joinsBlossom
   joins-is z l =
       let b = T .stands .base-is z ∙ entry-inside m (s .bases) z l in
       cc (C .cycle-is z l, C .on-is (state .base z) (base-inside z l), T .stands .queued z)
 
-  module _ (rows' : List (List ℕ)) (square : Square (length R) rows') (absorbed : Absorbed m rows rows' (s .labels) (s .mates) (found .sides) x y)
+  module _ (rows' : List (List ℕ)) (square : Square (length R) rows')
+      (absorbed : Absorbed m rows rows' (s .labels) (s .mates) (found .sides) x y)
       (bases : List ℕ) (bases-length : length bases ≡ 512)
       (based : (z : ℕ) → z < m → getD bases z 0 ≡ newBase (s .bases) (s .queue) (s .clock) (found .cycle) (found .bases-on) k z)
       (labels' queue' : List ℕ) (clock' : ℕ) (P : Promoted m m (found .sides) (s .labels) (s .queue) (s .clock) labels' queue' clock') where
@@ -253,6 +259,8 @@ module _ (R : List Request) (symmetric : Symmetric (adjacent R)) (r : ℕ) (s : 
       scanned-is = λ z. C .at .scanned-is z ∙ sym (among-same (s .queue) (t .queue) h (λ i l. P .before i (omega (arith, C .at .next))) z);
       next = omega (arith, C .at .next, P .counted);
       current = C .at .current ∙ sym (P .before h (C .at .next));
-      scanning = rw add-one (scan-blossom (adjacent R) symmetric M (T .frozen-label) (T .frozen-base) r state (C .at .scanned) x y (C .at .scanning)
+      scanning =
+          rw add-one
+          (scan-blossom (adjacent R) symmetric M (T .frozen-label) (T .frozen-base) r state (C .at .scanned) x y (C .at .scanning)
           (C .even) (C .neighbour) k (C .walked) (C .ended) (λ v. s .clock) (s .clock + count (onCycle m sides) m) orders);
     }

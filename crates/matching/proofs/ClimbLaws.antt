@@ -10,8 +10,8 @@ use lib.ListN.{length, getD, set, length-set}
 use borrow.Author.Tests.{eq-eqb, ne-eqb}
 use Rattle.ring.proofs.Cases.{yes, no, is}
 use Rattle.sets.specs.Sets.{has}
-use Rattle.matching.specs.Rows.{cell}
-use Rattle.matching.specs.Climbs.{baseAfter, went, goesOn, Climbable, Marks, marks, Marked}
+use Rattle.matching.specs.Internal.Rows.{cell}
+use Rattle.matching.specs.Internal.Climbs.{baseAfter, went, goesOn, Climbable, Marks, marks, Marked}
 use Rattle.matching.proofs.RowLaws.{entry-set}
 
 -- whether the walk goes on, by the mate o of b

@@ -1,30 +1,31 @@
--- The edge from x, which is being scanned, to the even y closes a blossom: what the functions on its rows ask, and what the walks up from x and y give.
+-- The edge from x, which is being scanned, to the even y closes a blossom: what the functions on its rows ask, and what the walks up from x
+-- and y give.
 use Prim.Native.Nat.{ℕ, _<_}
 use mathlib.Core.Path.{_≡_, refl}
-use mathlib.Core.Bool.{Bool, true, false, not, cond, _&&_, _||_}
+use mathlib.Core.Bool.{Bool, true, false, not, xor, cond, _&&_, _||_}
 use mathlib.Core.List.{List}
 use mathlib.Core.Logic.{_⊎_, inl, inr}
 use native.Mathlib.Omega.{arith}
 use lib.Dec.{eqb}
 use lib.ListN.{length, getD, replicate, getD-replicate}
 use borrow.Author.Tests.{eqb-true, lt-ltb}
-use Rattle.ring.proofs.Cases.{yes, no, is, same, different, test, impossible}
 use Rattle.ring.specs.declared.requests.Request.{Request}
+use Rattle.ring.proofs.Cases.{yes, no, is, same, different, test, impossible}
 use Rattle.sets.specs.Sets.{has}
 use Rattle.sets.proofs.SetLaws.{has-none}
-use Rattle.blossom.proofs.Labels.{Even, odd?}
-use Rattle.blossom.proofs.Rows.{Symmetric}
-use Rattle.blossom.proofs.State.{below, Invariant}
+use Rattle.blossom.specs.Internal.Labels.{Even, odd?}
+use Rattle.blossom.specs.Internal.Rows.{Symmetric}
+use Rattle.blossom.specs.Internal.State.{below, Invariant}
 use Rattle.blossom.proofs.Climbing.{sided}
-use Rattle.blossom.proofs.Cycle.{differ, cycle, Walk}
-use Rattle.matching.specs.Arrays.{Arrays}
-use Rattle.matching.specs.Adjacency.{adjacent}
-use Rattle.matching.specs.Bases.{Rebasable}
-use Rattle.matching.specs.Climbs.{Marks, marks, ClimbedBoth}
-use Rattle.matching.specs.Model.{entry, labelOf}
-use Rattle.matching.specs.Rows.{Readable}
-use Rattle.matching.specs.Search.{Standing, ScanAt}
-use Rattle.matching.specs.Steps.{onCycle}
+use Rattle.blossom.proofs.Cycle.{cycle, Walk}
+use Rattle.matching.specs.Internal.Arrays.{Arrays}
+use Rattle.matching.specs.Internal.Adjacency.{adjacent}
+use Rattle.matching.specs.Internal.Bases.{Rebasable}
+use Rattle.matching.specs.Internal.Climbs.{Marks, marks, ClimbedBoth}
+use Rattle.matching.specs.Internal.Model.{entry, labelOf}
+use Rattle.matching.specs.Internal.Rows.{Readable}
+use Rattle.matching.specs.Internal.Search.{Standing, ScanAt}
+use Rattle.matching.specs.Internal.Steps.{onCycle}
 use Rattle.matching.proofs.ModelLaws.{entry-inside}
 use Rattle.matching.proofs.StandingLaws.{mate-inside, clock-most, label-number}
 use Rattle.matching.proofs.CycleLaws.{side, sideOf, is-odd-number, on-cycle, side-of-other, label-inside}
@@ -39,7 +40,8 @@ both-sides true false true = refl
 both-sides true false false = refl
 both-sides false a b = refl
 
-any-side : (o a b : Bool) → (o && (b && not a) || (o && (a && not b) || false)) ≡ (o && differ a b)
+any-side : (o a b : Bool) → (o && (b && not a) || (o && (a && not b) || false)) ≡ (o && xor a b)
+unfolding xor
 any-side true true true = refl
 any-side true true false = refl
 any-side true false true = refl
@@ -64,7 +66,8 @@ pub record Closed (R : List Request) (r : ℕ) (s : Arrays) (rows : List (List �
   pub cycle-words : length (found .cycle) ≡ 8
   pub cycle-is : (v : ℕ) → v < length R → has (found .cycle) v ≡ cycle (entry (length R) (s .mates)) (at .standing .state) x y v
   pub on-is : (c : ℕ) → c < length R
-      → not (eqb (getD (found .bases-on) c 0) 0) ≡ cycle (entry (length R) (s .mates)) (at .standing .state) x y (entry (length R) (s .mates) c)
+      → not (eqb (getD (found .bases-on) c 0) 0) ≡ cycle (entry (length R) (s .mates)) (at .standing .state) x y
+      (entry (length R) (s .mates) c)
 
 module _ (R : List Request) (symmetric : Symmetric (adjacent R)) (r : ℕ) (s : Arrays) (rows : List (List ℕ)) (h x y : ℕ) where
   abbrev m : ℕ
@@ -104,7 +107,8 @@ module _ (R : List Request) (symmetric : Symmetric (adjacent R)) (r : ℕ) (s : 
         let ex = at .scanning .partly .x-even in let ey = labelled-even at l e in
         let none : Marks = marks (replicate 512 0) (replicate 8 0) (replicate 512 0) in let middle = B .middle in let c = B .other in
         let E = B .first in let F = B .second in
-        let zero : (v : ℕ) → v < length R → _≡_ {A = ℕ} (getD (replicate 512 0) v 0) 0 = λ v k. getD-replicate {A = ℕ} 512 v 0 0 (omega (arith, T .sized .few)) in
+        let zero : (v : ℕ) → v < length R → _≡_ {A = ℕ} (getD (replicate 512 0) v 0) 0 = λ v k. getD-replicate {A = ℕ} 512 v 0 0
+        (omega (arith, T .sized .few)) in
         let any : (v : ℕ) → (sided M state y x v || (sided M state x y v || false)) ≡ cycle M state x y v = λ v.
         any-side (odd? (state .label v)) (below M state v x) (below M state v y)
         in
@@ -147,7 +151,9 @@ module _ (R : List Request) (symmetric : Symmetric (adjacent R)) (r : ℕ) (s : 
 
     pub cycle-odd-or-none : (v : ℕ) → v < length R → (getD (found .sides) v 0 ≡ 0) ⊎ (getD (s .labels) v 0 ≡ 2)
     cycle-odd-or-none v k = elim (is (odd? (T .state .label v))) [
-      | yes f ↦ inr (eqb-true (getD (s .labels) v 0) 2 (cc (label-inside R r s rows (T .state) (T .stands) I v k, is-odd-number (getD (s .labels) v 0))))
+      | yes f ↦
+          inr (eqb-true (getD (s .labels) v 0) 2
+          (cc (label-inside R r s rows (T .state) (T .stands) I v k, is-odd-number (getD (s .labels) v 0))))
       | no f ↦ inl (side-of-other R r s rows (T .state) (T .stands) I x y (found .sides) (C .right) v k f)
     ]
 
@@ -156,7 +162,13 @@ module _ (R : List Request) (symmetric : Symmetric (adjacent R)) (r : ℕ) (s : 
     unfolding onCycle
     covered v k n = elim (test (getD (found .sides) v 0) 0) [
       | same e f ↦ e
-      | different d ↦ impossible (cc (C .cycle-is v k, on-cycle R r s rows (T .state) (T .stands) I x y (found .sides) (C .right) v, lt-ltb v m k, d .left))
+      | different d ↦
+          impossible (cc (
+            C .cycle-is v k,
+            on-cycle R r s rows (T .state) (T .stands) I x y (found .sides) (C .right) v,
+            lt-ltb v m k,
+            d .left,
+          ))
     ]
 
     pub rebasable : (k : ℕ) → k < length R → Rebasable (length R) k (s .bases) (s .queue) (found .cycle) (s .clock)

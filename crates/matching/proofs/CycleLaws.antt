@@ -1,28 +1,30 @@
 -- The arrays of a blossom, in the words of the theory: the sides are the cycle, and the absorbed rows its rows.
 use Prim.Native.Nat.{ℕ, _<_, _≤_}
 use mathlib.Core.Path.{_≡_, refl, sym, _∙_}
-use mathlib.Core.Bool.{Bool, true, false, not, cond, _&&_}
+use mathlib.Core.Bool.{Bool, true, false, not, xor, cond, _&&_}
 use mathlib.Core.List.{List, []}
 use native.Mathlib.Omega.{arith}
 use lib.Dec.{eqb, ltb}
 use lib.ListN.{length, getD}
 use borrow.Author.Tests.{eqb-true, ne-eqb, lt-ltb}
-use Rattle.ring.proofs.Cases.{yes, no, is, three, less, not-less, compare, impossible}
 use Rattle.ring.specs.declared.requests.Request.{Request}
-use Rattle.blossom.proofs.Labels.{Free, Even, even?, odd?, is-free, is-even, is-odd, is-frozen, label-case}
-use Rattle.blossom.proofs.State.{State, below, Invariant}
+use Rattle.ring.proofs.Cases.{yes, no, is, three, less, not-less, compare, impossible}
+use Rattle.blossom.specs.Internal.Labels.{Free, Even, even?, odd?}
+use Rattle.blossom.specs.Internal.State.{State, below, Invariant}
+use Rattle.blossom.proofs.LabelLaws.{is-free, is-even, is-odd, is-frozen, label-case}
 use Rattle.blossom.proofs.Absorb.{absorbed-row}
-use Rattle.blossom.proofs.Cycle.{differ, cycle}
-use Rattle.matching.specs.Arrays.{Arrays}
-use Rattle.matching.specs.Adjacency.{adjacent}
-use Rattle.matching.specs.Model.{entry, labelOf}
-use Rattle.matching.specs.Rows.{cell, belowIn, absorbedEntry}
-use Rattle.matching.specs.Search.{Stands}
-use Rattle.matching.specs.Steps.{onCycle}
+use Rattle.blossom.proofs.Cycle.{cycle}
+use Rattle.matching.specs.Internal.Arrays.{Arrays}
+use Rattle.matching.specs.Internal.Adjacency.{adjacent}
+use Rattle.matching.specs.Internal.Model.{entry, labelOf}
+use Rattle.matching.specs.Internal.Rows.{cell, belowIn, absorbedEntry}
+use Rattle.matching.specs.Internal.Search.{Stands}
+use Rattle.matching.specs.Internal.Steps.{onCycle}
 use Rattle.matching.proofs.ModelLaws.{entry-inside, labelAt-inside}
 use Rattle.matching.proofs.StandingLaws.{even-inside, odd-inside, entry-outside}
 
--- on which side of the edge from x to y the cycle has a vertex: 0 on none, 1 above x alone, 2 above y alone; by whether it is odd, above x and above y
+-- on which side of the edge from x to y the cycle has a vertex: 0 on none, 1 above x alone, 2 above y alone; by whether it is odd, above x
+-- and above y
 abbrev pub side : Bool → Bool → Bool → ℕ
 side o a b = cond o (cond a (cond b 0 1) (cond b 2 0)) 0
 
@@ -93,7 +95,8 @@ module _ (R : List Request) (r : ℕ) (s : Arrays) (rows : List (List ℕ)) (sta
       elim (is (eqb (cell rows x v) (getD (s .mates) v 0))) [ yes g ↦ cc | no g ↦ cc ]
 
   module _ (x y : ℕ) (sides : List ℕ) (sided : (v : ℕ) → v < m → getD sides v 0 ≡ sideOf M state x y v) where
-    some-side : (o a b : Bool) → not (eqb (side o a b) 0) ≡ (o && differ a b)
+    some-side : (o a b : Bool) → not (eqb (side o a b) 0) ≡ (o && xor a b)
+    unfolding xor
     some-side true true true = refl
     some-side true true false = refl
     some-side true false true = refl
@@ -115,13 +118,15 @@ module _ (R : List Request) (r : ℕ) (s : Arrays) (rows : List (List ℕ)) (sta
         outside : (v : ℕ) → m ≤ v → v < m → ⊥
         outside v h k = omega arith
 
-    first-side : (o a b : Bool) → (o && differ a b) ≡ true → a ≡ true → side o a b ≡ 1
+    first-side : (o a b : Bool) → (o && xor a b) ≡ true → a ≡ true → side o a b ≡ 1
+    unfolding xor
     first-side true true true e f = cc
     first-side true true false e f = refl
     first-side true false b e f = cc
     first-side false a b e f = cc
 
-    second-side : (o a b : Bool) → (o && differ a b) ≡ true → a ≡ false → side o a b ≡ 2
+    second-side : (o a b : Bool) → (o && xor a b) ≡ true → a ≡ false → side o a b ≡ 2
+    unfolding xor
     second-side true true b e f = cc
     second-side true false true e f = refl
     second-side true false false e f = cc
@@ -148,10 +153,12 @@ module _ (R : List Request) (r : ℕ) (s : Arrays) (rows : List (List ℕ)) (sta
     two-side true false false e = cc
     two-side false a b e = cc
 
-    pub side-one : (v : ℕ) → v < m → getD sides v 0 ≡ 1 → three (odd? (state .label v)) (below M state v x) (below M state v y) ≡ three true true false
+    pub side-one : (v : ℕ) → v < m → getD sides v 0 ≡ 1
+        → three (odd? (state .label v)) (below M state v x) (below M state v y) ≡ three true true false
     side-one v h e = one-side (odd? (state .label v)) (below M state v x) (below M state v y) (sym (sided v h) ∙ e)
 
-    pub side-two : (v : ℕ) → v < m → getD sides v 0 ≡ 2 → three (odd? (state .label v)) (below M state v x) (below M state v y) ≡ three true false true
+    pub side-two : (v : ℕ) → v < m → getD sides v 0 ≡ 2
+        → three (odd? (state .label v)) (below M state v x) (below M state v y) ≡ three true false true
     side-two v h e = two-side (odd? (state .label v)) (below M state v x) (below M state v y) (sym (sided v h) ∙ e)
 
     -- only an odd vertex has a side
@@ -168,7 +175,8 @@ module _ (R : List Request) (r : ℕ) (s : Arrays) (rows : List (List ℕ)) (sta
   unfolding absorbedEntry
   absorbed-inside p q v z ep eq hv hz = cc (below-arrays v z hv hz, row-cell p z ep hz, row-cell q z eq hz)
 
-  pub absorbed-outside : (p q v z : ℕ) → state .label p ≡ Even → state .label q ≡ Even → v < m → ltb z m ≡ false → absorbed-row M state p q v z ≡ z
+  pub absorbed-outside : (p q v z : ℕ) → state .label p ≡ Even → state .label q ≡ Even → v < m → ltb z m ≡ false
+      → absorbed-row M state p q v z ≡ z
   absorbed-outside p q v z ep eq hv hz =
       let away : (w : ℕ) → w < m → eqb z w ≡ false = λ w l. ne-eqb z w (λ e. impossible (cc (lt-ltb w m l))) in
       let fp = away p (even-inside R s rows state S p ep) in let fq = away q (even-inside R s rows state S q eq) in let fv = away v hv in

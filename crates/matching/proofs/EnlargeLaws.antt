@@ -5,18 +5,20 @@ use mathlib.Core.Bool.{Bool, true}
 use mathlib.Core.List.{List, []}
 use native.Mathlib.Omega.{arith}
 use lib.ListN.{length, getD, set, length-set}
-use Rattle.ring.proofs.Cases.{Apart, same, different, test}
 use Rattle.ring.specs.declared.requests.Request.{Request}
-use Rattle.blossom.proofs.Labels.{Free, Even, apart-by-even}
-use Rattle.blossom.proofs.Rows.{Symmetric, paired}
-use Rattle.blossom.proofs.Certificate.{BetweenSearches}
-use Rattle.blossom.proofs.Scanning.{Searching}
+use Rattle.ring.proofs.Cases.{Apart, same, different, test}
+use Rattle.blossom.specs.Internal.Labels.{Free, Even}
+use Rattle.blossom.specs.Internal.Rows.{Symmetric}
+use Rattle.blossom.specs.Internal.Certificate.{BetweenSearches}
+use Rattle.blossom.specs.Internal.Searches.{Searching}
+use Rattle.blossom.proofs.LabelLaws.{apart-by-even}
+use Rattle.blossom.proofs.RowLaws.{paired}
 use Rattle.blossom.proofs.Augment.{augments}
-use Rattle.matching.specs.Arrays.{Arrays}
-use Rattle.matching.specs.Adjacency.{adjacent}
-use Rattle.matching.specs.Model.{entry}
-use Rattle.matching.specs.Search.{Standing, Settled}
-use Rattle.matching.specs.Steps.{enlargedArrays}
+use Rattle.matching.specs.Internal.Arrays.{Arrays}
+use Rattle.matching.specs.Internal.Adjacency.{adjacent}
+use Rattle.matching.specs.Internal.Model.{entry}
+use Rattle.matching.specs.Internal.Search.{Standing, Settled}
+use Rattle.matching.specs.Internal.Steps.{enlargedArrays}
 use Rattle.matching.proofs.ModelLaws.{entry-set}
 use Rattle.matching.proofs.StandingLaws.{even-inside}
 
@@ -71,5 +73,6 @@ module _ (R : List Request) (symmetric : Symmetric (adjacent R)) (r : ℕ) (s : 
     base-is = T .stands .base-is;
     between = subst (λ (f : ℕ → ℕ). BetweenSearches (adjacent R) f (T .frozen-label) (T .state .base) (suc r))
         (agree (paired (T .state .row x) x y) (entry m (set (set (getD rows x []) x y) y x)) mates-after)
-        (augments (adjacent R) symmetric (entry m (s .mates)) (T .frozen-label) (T .frozen-base) r (T .between) (T .state) scanned S x y ex fy my axy);
+        (augments (adjacent R) symmetric (entry m (s .mates)) (T .frozen-label) (T .frozen-base) r (T .between) (T .state) scanned S x y ex
+        fy my axy);
   }

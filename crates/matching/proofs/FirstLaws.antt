@@ -5,7 +5,7 @@ use mathlib.Core.Bool.{Bool, true, false}
 use native.Mathlib.Omega.{arith}
 use borrow.Author.Tests.{eqb-false}
 use Rattle.ring.proofs.Cases.{same, different, test, less, not-less, compare}
-use Rattle.matching.specs.Progress.{First}
+use Rattle.matching.specs.Internal.Progress.{First}
 
 -- no number from `from` on and below n passes the test
 abbrev pub Passed : (ℕ → Bool) → ℕ → ℕ → Type 0
@@ -23,7 +23,8 @@ passed-next check from n P e = (
   ],
 )
 
-pub passed-over : (check : ℕ → Bool) (from n next : ℕ) → Passed check from n → n ≤ next → ((z : ℕ) → n ≤ z → z < next → check z ≡ false) → Passed check from next
+pub passed-over : (check : ℕ → Bool) (from n next : ℕ) → Passed check from n → n ≤ next → ((z : ℕ) → n ≤ z → z < next → check z ≡ false)
+    → Passed check from next
 passed-over check from n next P l e = (
   omega (arith, P .0),
   λ z a b. elim (compare z n) [

@@ -9,19 +9,22 @@ use lib.Dec.{eqb}
 use lib.ListN.{length, getD, set, length-set}
 use lib.Seq.{getD-set-same, getD-set-other}
 use borrow.Author.Tests.{eqb-false}
+use Rattle.ring.specs.declared.requests.Request.{Request}
 use Rattle.ring.proofs.Cases.{Apart, same, different, test, impossible}
 use Rattle.ring.proofs.Counting.{bit, sum-ext, count-insert}
-use Rattle.ring.specs.declared.requests.Request.{Request}
-use Rattle.blossom.proofs.Labels.{Free, Even, even?, apart-by-even}
-use Rattle.blossom.proofs.Rows.{Symmetric, grown-row}
-use Rattle.blossom.proofs.State.{State}
+use Rattle.blossom.specs.Internal.Labels.{Free, Even, even?}
+use Rattle.blossom.specs.Internal.Rows.{Symmetric}
+use Rattle.blossom.specs.Internal.State.{State}
+use Rattle.blossom.specs.Internal.Searches.{Searching}
+use Rattle.blossom.proofs.LabelLaws.{apart-by-even}
+use Rattle.blossom.proofs.RowLaws.{grown-row}
 use Rattle.blossom.proofs.Grow.{grown}
-use Rattle.blossom.proofs.Scanning.{Searching, search-grow, scan-grow}
-use Rattle.matching.specs.Arrays.{Arrays}
-use Rattle.matching.specs.Adjacency.{adjacent}
-use Rattle.matching.specs.Model.{entry, rowAt, labelOf, labelAt, settledOf, settledAt, among}
-use Rattle.matching.specs.Search.{Stands, Standing, SearchAt, ScanAt}
-use Rattle.matching.specs.Steps.{grownRow, grownArrays}
+use Rattle.blossom.proofs.Scanning.{search-grow, scan-grow}
+use Rattle.matching.specs.Internal.Arrays.{Arrays}
+use Rattle.matching.specs.Internal.Adjacency.{adjacent}
+use Rattle.matching.specs.Internal.Model.{entry, rowAt, labelOf, labelAt, settledOf, settledAt, among}
+use Rattle.matching.specs.Internal.Search.{Stands, Standing, SearchAt, ScanAt}
+use Rattle.matching.specs.Internal.Steps.{grownRow, grownArrays}
 use Rattle.matching.proofs.ModelLaws.{entry-inside, entry-set, labelAt-set, settledAt-set, among-set, among-add}
 use Rattle.matching.proofs.RowLaws.{square-set}
 use Rattle.matching.proofs.StandingLaws.{even-inside, mate-inside, clock-room, unfrozen}
@@ -46,7 +49,8 @@ grown-entry m l x y c z h hx hy hc d =
       | different e ↦ cc
     ]
 
-module _ (R : List Request) (symmetric : Symmetric (adjacent R)) (r : ℕ) (s : Arrays) (rows : List (List ℕ)) (T : Standing R r s rows) (scanned : ℕ → Bool)
+module _ (R : List Request) (symmetric : Symmetric (adjacent R)) (r : ℕ) (s : Arrays) (rows : List (List ℕ)) (T : Standing R r s rows)
+    (scanned : ℕ → Bool)
     (S : Searching (adjacent R) (entry (length R) (s .mates)) (T .frozen-label) (T .frozen-base) r (T .state) scanned)
     (x y : ℕ) (x-even : T .state .label x ≡ Even) (hy : y < length R) (fy : T .state .label y ≡ Free)
     (ey : eqb (entry (length R) (s .mates) y) y ≡ false) (axy : adjacent R x y ≡ true) where
@@ -177,7 +181,8 @@ module _ (R : List Request) (symmetric : Symmetric (adjacent R)) (r : ℕ) (s : 
       queue = simp length-set (T .sized .queue);
       bases-inside = λ z l. elim (test z c) [
         | same e f ↦
-            let b : getD (set (s .bases) c c) z 0 ≡ c = cc (getD-set-same (s .bases) c c 0 (omega (arith, few, c-inside, T .sized .bases))) in
+            let room : c < length (s .bases) = omega (arith, few, c-inside, T .sized .bases) in
+            let b : getD (set (s .bases) c c) z 0 ≡ c = cc (getD-set-same (s .bases) c c 0 room) in
             omega (arith, c-inside)
         | different e ↦ omega (arith, getD-set-other (s .bases) c z c 0 (eqb-false z c (e .left)), T .sized .bases-inside z l)
       ];
@@ -193,7 +198,8 @@ module _ (R : List Request) (symmetric : Symmetric (adjacent R)) (r : ℕ) (s : 
   }
 
   -- no vertex is being scanned
-  pub search-grows : (h : ℕ) → h ≤ s .clock → ((z : ℕ) → scanned z ≡ among (s .queue) h z) → SearchAt R r (grownArrays s x y c) (set rows c (grownRow rows x y c)) h
+  pub search-grows : (h : ℕ) → h ≤ s .clock → ((z : ℕ) → scanned z ≡ among (s .queue) h z)
+      → SearchAt R r (grownArrays s x y c) (set rows c (grownRow rows x y c)) h
   unfolding grown-stands
   search-grows h within scanned-is = record {
     standing = grown-stands;
@@ -205,8 +211,10 @@ module _ (R : List Request) (symmetric : Symmetric (adjacent R)) (r : ℕ) (s : 
 
 -- x is being scanned, and y comes next
 pub grow-stands : (R : List Request) (symmetric : Symmetric (adjacent R)) (r : ℕ) (s : Arrays) (rows : List (List ℕ)) (h x y : ℕ)
-    (at : ScanAt R r s rows h x y) → y < length R → at .standing .state .label y ≡ Free → eqb (entry (length R) (s .mates) y) y ≡ false → adjacent R x y ≡ true
-    → ScanAt R r (grownArrays s x y (getD (s .mates) y 0)) (set rows (getD (s .mates) y 0) (grownRow rows x y (getD (s .mates) y 0))) h x (y + 1)
+    (at : ScanAt R r s rows h x y) → y < length R → at .standing .state .label y ≡ Free → eqb (entry (length R) (s .mates) y) y ≡ false
+    → adjacent R x y ≡ true
+    → ScanAt R r (grownArrays s x y (getD (s .mates) y 0)) (set rows (getD (s .mates) y 0) (grownRow rows x y (getD (s .mates) y 0))) h x
+    (y + 1)
 unfolding grown-stands
 grow-stands R symmetric r s rows h x y at hy fy ey axy = let T = at .standing in let c = getD (s .mates) y 0 in record {
   standing = grown-stands R symmetric r s rows T (at .scanned) (at .scanning .search) x y (at .scanning .partly .x-even) hy fy ey axy;
@@ -214,5 +222,7 @@ grow-stands R symmetric r s rows h x y at hy fy ey axy = let T = at .standing in
   scanned-is = λ z. at .scanned-is z ∙ sym (among-set (s .queue) h (s .clock) c z (omega (arith, at .next)));
   next = omega (arith, at .next);
   current = at .current ∙ sym (getD-set-other (s .queue) (s .clock) h c 0 (λ e. omega (arith, at .next)));
-  scanning = rw add-one (scan-grow (adjacent R) symmetric (entry (length R) (s .mates)) (T .frozen-label) (T .frozen-base) r (T .state) (at .scanned) x y (at .scanning) fy ey axy);
+  scanning = rw add-one
+      (scan-grow (adjacent R) symmetric (entry (length R) (s .mates)) (T .frozen-label) (T .frozen-base) r (T .state) (at .scanned) x y
+      (at .scanning) fy ey axy);
 }

@@ -4,20 +4,20 @@ use mathlib.Core.Path.{_≡_, refl, sym, _∙_}
 use mathlib.Core.Bool.{Bool, true, false, _&&_, _||_}
 use mathlib.Core.List.{List}
 use lib.ListN.{length, getD}
-use Rattle.ring.proofs.Cases.{yes, no, is, two, impossible}
 use Rattle.ring.specs.declared.requests.Request.{Request}
+use Rattle.ring.proofs.Cases.{yes, no, is, two, impossible}
 use Rattle.sets.specs.Sets.{has}
-use Rattle.blossom.proofs.Labels.{Label, Free, Even, Odd, Frozen, even?, odd?}
-use Rattle.blossom.proofs.Rows.{Symmetric}
-use Rattle.blossom.proofs.State.{State, Invariant}
+use Rattle.blossom.specs.Internal.Labels.{Label, Free, Even, Odd, Frozen, even?, odd?}
+use Rattle.blossom.specs.Internal.Rows.{Symmetric}
+use Rattle.blossom.specs.Internal.State.{State, Invariant}
 use Rattle.blossom.proofs.Cycle.{cycle, cycle-symmetric}
 use Rattle.blossom.proofs.Kept.{kept-either}
-use Rattle.matching.specs.Adjacency.{adjacent}
-use Rattle.matching.specs.Arrays.{Arrays}
-use Rattle.matching.specs.Climbs.{Marks}
-use Rattle.matching.specs.Model.{entry}
-use Rattle.matching.specs.Rows.{mixedEntry, Unmixed}
-use Rattle.matching.specs.Steps.{joinsBlossom}
+use Rattle.matching.specs.Internal.Adjacency.{adjacent}
+use Rattle.matching.specs.Internal.Arrays.{Arrays}
+use Rattle.matching.specs.Internal.Climbs.{Marks}
+use Rattle.matching.specs.Internal.Model.{entry}
+use Rattle.matching.specs.Internal.Rows.{mixedEntry, Unmixed}
+use Rattle.matching.specs.Internal.Steps.{joinsBlossom}
 use Rattle.matching.proofs.CycleLaws.{row-cell, below-arrays, side-one, side-two}
 use Rattle.matching.proofs.ClosingLaws.{Closed}
 use Rattle.matching.proofs.BlossomLaws.{joins-is}
@@ -35,7 +35,8 @@ neither false b e = cc
 module _ (R : List Request) (symmetric : Symmetric (adjacent R)) (r : ℕ) (s : Arrays) (rows : List (List ℕ)) (h x y : ℕ)
     {b : ℕ} {found : Marks} (C : Closed R r s rows h x y b found)
     (joined : List ℕ)
-    (covers : (z : ℕ) → z < length R → joinsBlossom (s .bases) (s .queue) (s .clock) (found .cycle) (found .bases-on) z ≡ true → has joined z ≡ true) where
+    (covers : (z : ℕ) → z < length R → joinsBlossom (s .bases) (s .queue) (s .clock) (found .cycle) (found .bases-on) z ≡ true
+    → has joined z ≡ true) where
   abbrev state : State
   state = C .at .standing .state
 
@@ -53,7 +54,8 @@ module _ (R : List Request) (symmetric : Symmetric (adjacent R)) (r : ℕ) (s : 
 
   away : (z : ℕ) → z < length R → has joined z ≡ false → two (A z) (even? (state .label z) && A (M (state .base z))) ≡ two false false
   away z l e = neither (A z) (even? (state .label z) && A (M (state .base z)))
-      (sym (joins-is R symmetric r s rows h x y C z l) ∙ elim (is (joinsBlossom (s .bases) (s .queue) (s .clock) (found .cycle) (found .bases-on) z)) [
+      (sym (joins-is R symmetric r s rows h x y C z l)
+      ∙ elim (is (joinsBlossom (s .bases) (s .queue) (s .clock) (found .cycle) (found .bases-on) z)) [
         | yes f ↦ impossible (cc (covers z l f))
         | no f ↦ f
       ])

@@ -7,7 +7,7 @@ use lib.ListN.{length, getD, set, length-set}
 use lib.Seq.{getD-set-same, getD-set-other}
 use borrow.Author.Tests.{eqb-false}
 use Rattle.ring.proofs.Cases.{same, different, test}
-use Rattle.matching.specs.Labelling.{Relabelled}
+use Rattle.matching.specs.Internal.Labelling.{Relabelled}
 
 -- the first i labels are replaced, and the others are as before
 pub record Relabelling (f : ℕ → ℕ) (before after : List ℕ) (i : ℕ) : Type 0 where

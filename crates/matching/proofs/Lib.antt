@@ -5,6 +5,7 @@ pub mod RowLaws
 pub mod MendLaws
 pub mod AbsorbLaws
 pub mod StandingLaws
+pub mod OutcomeLaws
 pub mod GrowLaws
 pub mod EnlargeLaws
 pub mod CycleLaws
@@ -21,9 +22,11 @@ pub mod AroundLaws
 pub mod ScanLaws
 pub mod ExtendLaws
 pub mod SearchLaws
+pub mod MeasureLaws
 pub mod StartLaws
 pub mod PairLaws
 pub mod SettledLaws
+pub mod CertifiedLaws
 pub mod CountLaws
 pub mod MaximumLaws
 pub mod AloneLaws

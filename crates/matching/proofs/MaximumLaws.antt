@@ -7,8 +7,8 @@ use native.Mathlib.Omega.{arith}
 use lib.Dec.{eqb, ltb}
 use lib.ListN.{length, replicate, length-replicate, getD-replicate}
 use borrow.Author.Tests.{eqb-true, ltb-true, eq-eqb, ne-eqb}
-use Rattle.ring.proofs.Cases.{yes, no, is, less, not-less, compare, impossible}
-use Rattle.matching.specs.Search.{Square}
+use Rattle.ring.proofs.Cases.{less, not-less, compare, impossible, and-true}
+use Rattle.matching.specs.Internal.Search.{Square}
 
 pub square-blank : (m k : ℕ) (row : List ℕ) → m ≤ k → length row ≡ 512 → Square m (replicate k row)
 square-blank m k row h e = record {
@@ -17,10 +17,10 @@ square-blank m k row h e = record {
 }
 
 pub open-exposed : (a r n : ℕ) → (eqb a r && ltb n 3) ≡ true → a ≡ r
-open-exposed a r n e = elim (is (eqb a r)) [ yes f ↦ eqb-true a r f | no f ↦ impossible (cc) ]
+open-exposed a r n e = eqb-true a r (and-true (eqb a r) (ltb n 3) e .0)
 
 pub open-free : (a r n : ℕ) → (eqb a r && ltb n 3) ≡ true → n < 3
-open-free a r n e = elim (is (eqb a r)) [ yes f ↦ ltb-true n 3 (cc) | no f ↦ impossible (cc) ]
+open-free a r n e = ltb-true n 3 (and-true (eqb a r) (ltb n 3) e .1)
 
 pub open-not : (a r n : ℕ) → (eqb a r && ltb n 3) ≡ false → a ≡ r → 3 ≤ n
 open-not a r n e f = elim (compare n 3) [ less h i ↦ impossible (cc (eq-eqb a r f)) | not-less h i ↦ h ]

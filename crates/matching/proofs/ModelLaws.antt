@@ -9,8 +9,8 @@ use lib.ListN.{length, getD, set}
 use lib.Seq.{getD-set-same, getD-set-other}
 use borrow.Author.Tests.{eqb-false, lt-ltb}
 use Rattle.ring.proofs.Cases.{eqb-refl, same, different, test, less, not-less, compare, impossible}
-use Rattle.blossom.proofs.Labels.{free?}
-use Rattle.matching.specs.Model.{entry, labelOf, labelAt, settledOf, settledAt, among}
+use Rattle.blossom.specs.Internal.Labels.{free?}
+use Rattle.matching.specs.Internal.Model.{entry, labelOf, labelAt, settledOf, settledAt, among}
 
 pub entry-inside : (m : ℕ) (l : List ℕ) (z : ℕ) → z < m → entry m l z ≡ getD l z 0
 unfolding entry
@@ -24,14 +24,16 @@ entry-set m l i v z h k = elim (test z i) [
   | different e ↦ cc (getD-set-other l i z v 0 (eqb-false z i (e .left)))
 ]
 
-pub labelAt-set : (m : ℕ) (l : List ℕ) (i v z : ℕ) → i < m → m ≤ length l → labelAt m (set l i v) z ≡ cond (eqb z i) (labelOf v) (labelAt m l z)
+pub labelAt-set : (m : ℕ) (l : List ℕ) (i v z : ℕ) → i < m → m ≤ length l
+    → labelAt m (set l i v) z ≡ cond (eqb z i) (labelOf v) (labelAt m l z)
 unfolding labelAt
 labelAt-set m l i v z h k = elim (test z i) [
   | same e f ↦ cc (lt-ltb i m h, getD-set-same l i v 0 (omega arith))
   | different e ↦ cc (getD-set-other l i z v 0 (eqb-false z i (e .left)))
 ]
 
-pub settledAt-set : (m : ℕ) (l : List ℕ) (i v z : ℕ) → i < m → m ≤ length l → settledAt m (set l i v) z ≡ cond (eqb z i) (settledOf v) (settledAt m l z)
+pub settledAt-set : (m : ℕ) (l : List ℕ) (i v z : ℕ) → i < m → m ≤ length l
+    → settledAt m (set l i v) z ≡ cond (eqb z i) (settledOf v) (settledAt m l z)
 unfolding settledAt
 settledAt-set m l i v z h k = elim (test z i) [
   | same e f ↦ cc (lt-ltb i m h, getD-set-same l i v 0 (omega arith))

@@ -1,26 +1,27 @@
--- From mates to pairs: the pairs of the mates are a matching, with two requests for each pair, and a maximum one where the searches have ended.
+-- From mates to pairs: the pairs of the mates are a matching, with two requests for each pair, and a maximum one where the searches have
+-- ended.
 use Prim.Native.Nat.{ℕ, zero, suc, _+_, _*_, _<_, _≤_}
 use mathlib.Core.Path.{_≡_, refl, sym, _∙_}
-use mathlib.Core.Bool.{Bool, true, false, not, _&&_, _||_}
+use mathlib.Core.Bool.{Bool, true, false, not, _&&_, _||_, and-true}
 use mathlib.Core.List.{List, [], _∷_, _++_}
 use native.Mathlib.Omega.{arith}
 use lib.Dec.{eqb, ltb, leb}
 use lib.ListN.{length, getD, take}
 use lib.Seq.{getD-take, length-take-le}
 use borrow.Author.Tests.{eqb-false, eq-eqb, ne-eqb, ltb-true, le-leb, lt-leb}
+use Rattle.ring.specs.declared.requests.Request.{Request}
 use Rattle.ring.specs.Chords.{inside, compatible}
-use Rattle.ring.specs.Matchings.{Pair, pair, endsOf, NoTwice, IsMatching, IsMaximum}
+use Rattle.ring.specs.Matchings.{Pair, pair, requestNumbers, NoTwice, IsMatching, IsMaximum}
 use Rattle.ring.specs.Requests.{request}
 use Rattle.ring.proofs.Cases.{yes, no, is, Apart, same, different, eqb-refl, test, less, not-less, compare, apart, impossible}
 use Rattle.ring.proofs.Counting.{bit, count, sum-ext, has, has-none}
-use Rattle.matching.specs.Adjacency.{adjacent}
-use Rattle.matching.specs.Maximum.{lowerPair, pairsFrom, pairsOf}
-use Rattle.matching.proofs.AdjacencyLaws.{adjacent-are-compatible, adjacent-if, mates-inside}
-use Rattle.blossom.proofs.Certificate.{BetweenSearches}
-use Rattle.blossom.proofs.Labels.{Label}
+use Rattle.blossom.specs.Internal.Certificate.{BetweenSearches}
+use Rattle.blossom.specs.Internal.Labels.{Label}
+use Rattle.blossom.specs.Internal.Rows.{Symmetric, Mates}
 use Rattle.blossom.proofs.Maximum.{Disjoint, none, more, count-ends, longest}
-use Rattle.blossom.proofs.Rows.{Symmetric, Mates}
-use Rattle.ring.specs.declared.requests.Request.{Request}
+use Rattle.matching.specs.Maximum.{lowerPair, pairsFrom, pairsOf}
+use Rattle.matching.specs.Internal.Adjacency.{adjacent}
+use Rattle.matching.proofs.AdjacencyLaws.{adjacent-are-compatible, adjacent-if, mates-inside}
 
 -- what stands in a list is one of its entries
 has-not : (l : List ℕ) (z : ℕ) → has l z ≡ false → (i : ℕ) → i < length l → z ≡ getD l i 0 → ⊥
@@ -36,8 +37,8 @@ module _ (R : List Request) where
       let ends = G .numbers 0 (omega arith) in
       let n = ne-eqb (p .first) (p .second) (G .once 0 1 (omega arith) (omega arith)) in
       more (ends .0) (ends .1) n (adjacent-if R (p .first) (p .second) n (ends .0) (ends .1) (G .compatibles 0 (omega arith)))
-      (has-none (endsOf Q) (p .first) (λ i h. G .once 0 (suc (suc i)) (omega arith) (omega arith)))
-      (has-none (endsOf Q) (p .second) (λ i h. G .once 1 (suc (suc i)) (omega arith) (omega arith)))
+      (has-none (requestNumbers Q) (p .first) (λ i h. G .once 0 (suc (suc i)) (omega arith) (omega arith)))
+      (has-none (requestNumbers Q) (p .second) (λ i h. G .once 1 (suc (suc i)) (omega arith) (omega arith)))
       (disjoint Q (record {
         numbers = λ k h. G .numbers (suc k) (omega arith);
         compatibles = λ k h. G .compatibles (suc k) (omega arith);
@@ -56,14 +57,14 @@ module _ (R : List Request) where
   compatibles-of (more {p} {P} la lb ab e ha hb d) zero h = adjacent-are-compatible R (p .first) (p .second) e
   compatibles-of (more la lb ab e ha hb d) (suc k) h = compatibles-of d k (omega arith)
 
-  once-of : {Q : List Pair} → Disjoint (adjacent R) (length R) Q → NoTwice (endsOf Q)
+  once-of : {Q : List Pair} → Disjoint (adjacent R) (length R) Q → NoTwice (requestNumbers Q)
   once-of none i j h k e = omega arith
   once-of (more {p} {P} la lb ab e ha hb d) zero zero h k f = omega arith
   once-of (more {p} {P} la lb ab e ha hb d) zero (suc zero) h k f = eqb-false (p .first) (p .second) ab f
-  once-of (more {p} {P} la lb ab e ha hb d) zero (suc (suc j)) h k f = has-not (endsOf P) (p .first) ha j (omega arith) f
+  once-of (more {p} {P} la lb ab e ha hb d) zero (suc (suc j)) h k f = has-not (requestNumbers P) (p .first) ha j (omega arith) f
   once-of (more {p} {P} la lb ab e ha hb d) (suc zero) zero h k f = omega arith
   once-of (more {p} {P} la lb ab e ha hb d) (suc zero) (suc zero) h k f = omega arith
-  once-of (more {p} {P} la lb ab e ha hb d) (suc zero) (suc (suc j)) h k f = has-not (endsOf P) (p .second) hb j (omega arith) f
+  once-of (more {p} {P} la lb ab e ha hb d) (suc zero) (suc (suc j)) h k f = has-not (requestNumbers P) (p .second) hb j (omega arith) f
   once-of (more {p} {P} la lb ab e ha hb d) (suc (suc i)) zero h k f = omega arith
   once-of (more {p} {P} la lb ab e ha hb d) (suc (suc i)) (suc zero) h k f = omega arith
   once-of (more {p} {P} la lb ab e ha hb d) (suc (suc i)) (suc (suc j)) h k f = once-of d i j (omega arith) (omega arith) f
@@ -71,7 +72,8 @@ module _ (R : List Request) where
   pub is-matching : {Q : List Pair} → Disjoint (adjacent R) (length R) Q → IsMatching R Q
   is-matching d = record { numbers = numbers-of d; compatibles = compatibles-of d; once = once-of d }
 
-has-lower : (b : Bool) (i j : ℕ) (P : List Pair) (z : ℕ) → has (endsOf (lowerPair b i j ++ P)) z ≡ (b && (eqb z i || eqb z j) || has (endsOf P) z)
+has-lower : (b : Bool) (i j : ℕ) (P : List Pair) (z : ℕ)
+    → has (requestNumbers (lowerPair b i j ++ P)) z ≡ (b && (eqb z i || eqb z j) || has (requestNumbers P) z)
 has-lower true i j P z = elim (is (eqb z i)) [ yes e ↦ cc | no e ↦ elim (is (eqb z j)) [ yes f ↦ cc | no f ↦ cc ] ]
 has-lower false i j P z = refl
 
@@ -105,7 +107,7 @@ module _ (adj : ℕ → ℕ → Bool) (m : ℕ) (M : ℕ → ℕ) (w : Mates adj
   not-covered : (i z : ℕ) → (leb i z && leb i (M z)) ≡ false → covered-from i z ≡ false
   not-covered i z e = elim (is (eqb (M z) z)) [ yes f ↦ cc | no f ↦ cc ]
 
-  has-pairs : (l : List ℕ) (i : ℕ) → Reads M m i l → (z : ℕ) → z < m → has (endsOf (pairsFrom i l)) z ≡ covered-from i z
+  has-pairs : (l : List ℕ) (i : ℕ) → Reads M m i l → (z : ℕ) → z < m → has (requestNumbers (pairsFrom i l)) z ≡ covered-from i z
   has-pairs [] i r z h = sym (not-covered i z (cc (lt-leb i z (omega (arith, r .reach)))))
   has-pairs (j ∷ l) i r z h =
       let j-is = head-is i j l r in let rest = has-pairs l (i + 1) (tail-is i j l r) z h in
@@ -182,12 +184,13 @@ module _ (R : List Request) (mates : List ℕ) (long : length R ≤ length mates
   pairs-count symmetric =
       let inside = mates-inside R M w in let l : List ℕ = take (length R) mates in
       sym (count-ends (adjacent R) symmetric (length R) (pairs-disjoint (adjacent R) (length R) M w inside l 0 reads))
-      ∙ sum-ext (λ z. bit (has (endsOf (pairsFrom 0 l)) z)) (λ z. bit (not (eqb (M z) z))) (length R)
-      (λ z h. cc (has-pairs (adjacent R) (length R) M w inside l 0 reads z h, le-leb 0 z (omega arith), le-leb 0 (M z) (omega arith), and-true (not (eqb (M z) z))))
-    where
-      and-true : (b : Bool) → (b && true) ≡ b
-      and-true true = refl
-      and-true false = refl
+      ∙ sum-ext (λ z. bit (has (requestNumbers (pairsFrom 0 l)) z)) (λ z. bit (not (eqb (M z) z))) (length R)
+      (λ z h. cc (
+        has-pairs (adjacent R) (length R) M w inside l 0 reads z h,
+        le-leb 0 z (omega arith),
+        le-leb 0 (M z) (omega arith),
+        and-true (not (eqb (M z) z)),
+      ))
 
   -- where every exposed vertex is frozen, it is a maximum one
   pub maximum-pairs : Symmetric (adjacent R) → (label : ℕ → Label) (base : ℕ → ℕ) → BetweenSearches (adjacent R) M label base (length R)

@@ -11,7 +11,7 @@ use lib.Seq.{getD-set-same, getD-set-other}
 use borrow.Author.Tests.{eqb-false, ne-eqb, lt-ltb, le-ltb}
 use Rattle.ring.proofs.Cases.{yes, no, is, same, different, test, less, not-less, compare}
 use Rattle.ring.proofs.Counting.{sum, count, bit}
-use Rattle.matching.specs.Steps.{onCycle, Promoted}
+use Rattle.matching.specs.Internal.Steps.{onCycle, Promoted}
 use Rattle.matching.proofs.ModelLaws.{among-add}
 
 -- sums over more numbers
@@ -78,7 +78,8 @@ module _ (m n : ℕ) (sides labels queue : List ℕ) (clock : ℕ) (labels' queu
       let b : bit (onCycle m sides n) ≡ 1 = cc (lt-ltb n m h, ne-eqb (getD sides n 0) 0 e) in
       omega (arith, P .counted, count-next (onCycle m sides) n, sum-more (λ z. bit (onCycle m sides z)) (n + 1) m (omega arith))
 
-  pub promoted-take : (getD sides n 0 ≡ 0 → ⊥) → n < length labels' → clock' < length queue' → Promoted m (n + 1) sides labels queue clock (set labels' n 1) (set queue' clock' n) (clock' + 1)
+  pub promoted-take : (getD sides n 0 ≡ 0 → ⊥) → n < length labels' → clock' < length queue'
+      → Promoted m (n + 1) sides labels queue clock (set labels' n 1) (set queue' clock' n) (clock' + 1)
   unfolding onCycle
   promoted-take e hl hq =
       let f = ne-eqb (getD sides n 0) 0 e in
@@ -108,6 +109,7 @@ promoted-between m n (suc k) sides labels queue clock labels' queue' clock' P h 
   | same e t ↦ rw e at P
   | different d ↦
       let before : n ≤ k = omega (arith, eqb-false n (suc k) (d .left)) in
-      let Q = promoted-between m n k sides labels queue clock labels' queue' clock' P before (omega arith) (λ z a b. off z a (omega arith)) in
+      let Q = promoted-between m n k sides labels queue clock labels' queue' clock' P before (omega arith)
+      (λ z a b. off z a (omega arith)) in
       rw (add-one k) at (promoted-skip m k sides labels queue clock labels' queue' clock' Q (omega arith) (off k before (omega arith)))
 ]

@@ -7,16 +7,16 @@ use mathlib.Core.Logic.{_⊎_, ⊎-elim}
 use native.Mathlib.Decide.{decLt}
 use native.Mathlib.Omega.{arith}
 use lib.Dec.{eqb}
-use borrow.Author.Tests.{eq-eqb, ne-eqb, eqb-false}
 use lib.ListN.{length, getD, set, length-set}
 use lib.Seq.{getD-set-same, getD-set-other, set-set}
+use borrow.Author.Tests.{eq-eqb, ne-eqb, eqb-false}
 use Rattle.ring.proofs.Cases.{same, different, test}
 use Rattle.sets.specs.Sets.{has}
-use Rattle.blossom.proofs.Labels.{Free, Frozen}
-use Rattle.blossom.proofs.State.{below-test}
-use Rattle.matching.specs.Model.{labelOf}
-use Rattle.matching.specs.Rows.{cell, belowIn, mixedEntry, absorbedEntry, Readable, AbsorbedRow, AbsorbedVertex}
-use Rattle.matching.specs.Search.{Square}
+use Rattle.blossom.specs.Internal.Labels.{Free, Frozen}
+use Rattle.blossom.specs.Internal.State.{below-test}
+use Rattle.matching.specs.Internal.Model.{labelOf}
+use Rattle.matching.specs.Internal.Rows.{cell, belowIn, mixedEntry, absorbedEntry, Readable, AbsorbedRow, AbsorbedVertex}
+use Rattle.matching.specs.Internal.Search.{Square}
 
 -- a vertex that is free or frozen is below none
 below-outside : (free self a b : Bool) → below-test (cond free Free Frozen) self a b ≡ false
@@ -37,14 +37,16 @@ module _ (rows : List (List ℕ)) (labels mates : List ℕ) (v z : ℕ) where
   unfolding belowIn labelOf
   below-self odd self = rw (odd, eq-eqb z v self)
 
-  pub below-odd : getD labels z 0 ≡ 2 → (z ≡ v → ⊥) → belowIn rows labels mates v z ≡ not (eqb (cell rows (getD mates z 0) v) (getD mates v 0))
+  pub below-odd : getD labels z 0 ≡ 2 → (z ≡ v → ⊥)
+      → belowIn rows labels mates v z ≡ not (eqb (cell rows (getD mates z 0) v) (getD mates v 0))
   unfolding belowIn labelOf
   below-odd odd other = rw (odd, ne-eqb z v other)
 
   pub below-none : (getD labels z 0 ≡ 1 → ⊥) → (getD labels z 0 ≡ 2 → ⊥) → belowIn rows labels mates v z ≡ false
   unfolding belowIn labelOf
   below-none not-even not-odd = rw (ne-eqb (getD labels z 0) 1 not-even, ne-eqb (getD labels z 0) 2 not-odd)
-      (below-outside (eqb (getD labels z 0) 0) (eqb z v) (eqb (cell rows z v) (getD mates v 0)) (eqb (cell rows (getD mates z 0) v) (getD mates v 0)))
+      (below-outside (eqb (getD labels z 0) 0) (eqb z v) (eqb (cell rows z v) (getD mates v 0))
+      (eqb (cell rows (getD mates z 0) v) (getD mates v 0)))
 
 -- an entry of a row that is mixed of two
 module _ (rows : List (List ℕ)) (labels mates : List ℕ) (p q v z : ℕ) where
@@ -79,7 +81,8 @@ pub record Mended (f g : ℕ → ℕ) (r : List ℕ) (n : ℕ) : Type 0 where
 
 module _ (f g : ℕ → ℕ) (set-of : List ℕ) (m : ℕ) (agree : (k : ℕ) → k < m → has set-of k ≡ false → f k ≡ g k) where
   -- the loop goes on to the next vertex of the set
-  pub mended-skip : (r : List ℕ) (n next : ℕ) → Mended f g r n → n ≤ next → next ≤ m → ((k : ℕ) → n ≤ k → k < next → has set-of k ≡ false) → Mended f g r next
+  pub mended-skip : (r : List ℕ) (n next : ℕ) → Mended f g r n → n ≤ next → next ≤ m → ((k : ℕ) → n ≤ k → k < next → has set-of k ≡ false)
+      → Mended f g r next
   mended-skip r n next H h l none =
       record {
         done =
@@ -115,7 +118,8 @@ unfolding mixedEntry absorbedEntry
 row-end m rows labels mates p q v r lp lq lv wide filled z less =
     entry-set (set (set r q p) p q) v v z (simp length-set (omega arith))
     ∙ ap (cond (eqb z v) v)
-    (entry-set (set r q p) p q z (simp length-set (omega arith)) ∙ ap (cond (eqb z p) q) (entry-set r q p z (omega arith) ∙ ap (cond (eqb z q) p) (filled z less)))
+    (entry-set (set r q p) p q z (simp length-set (omega arith)) ∙ ap (cond (eqb z p) q)
+    (entry-set r q p z (omega arith) ∙ ap (cond (eqb z q) p) (filled z less)))
 
 -- a row of the right length may be stored
 pub square-set : (m : ℕ) (rows : List (List ℕ)) (v : ℕ) (r : List ℕ) → Square m rows → v < m → length r ≡ 512 → Square m (set rows v r)

@@ -9,21 +9,21 @@ use lib.Dec.{eqb}
 use lib.ListN.{length, getD, set, length-set}
 use lib.Seq.{getD-set-same, getD-set-other}
 use borrow.Author.Tests.{eqb-true, eqb-false, ne-eqb, lt-ltb, le-ltb}
+use Rattle.ring.specs.declared.requests.Request.{Request}
 use Rattle.ring.proofs.Cases.{yes, no, is, same, different, test, less, not-less, compare, eqb-refl, impossible}
 use Rattle.ring.proofs.Counting.{bit, sum-ext, sum-zero, count-insert}
-use Rattle.ring.specs.declared.requests.Request.{Request}
-use Rattle.blossom.proofs.Labels.{Free, Even, Odd, Frozen, even?, odd?, free?}
-use Rattle.blossom.proofs.Rows.{Symmetric}
-use Rattle.blossom.proofs.State.{State}
+use Rattle.blossom.specs.Internal.Labels.{Free, Even, Odd, Frozen, even?, odd?, free?}
+use Rattle.blossom.specs.Internal.Rows.{Symmetric}
+use Rattle.blossom.specs.Internal.State.{State}
 use Rattle.blossom.proofs.Start.{IsStart}
 use Rattle.blossom.proofs.Search.{between-skip, search-begin}
 use Rattle.blossom.proofs.Freeze.{frozen-labels, freezes}
-use Rattle.matching.specs.Arrays.{Arrays, arrays}
-use Rattle.matching.specs.Adjacency.{adjacent}
-use Rattle.matching.specs.Labelling.{unlabelled, frozen, Relabelled}
-use Rattle.matching.specs.Model.{entry, rowAt, labelOf, labelAt, settledOf, settledAt, among}
-use Rattle.matching.specs.Search.{Square, Settled, Standing, SearchAt}
-use Rattle.matching.specs.Progress.{begunArrays, withLabels}
+use Rattle.matching.specs.Internal.Arrays.{Arrays, arrays}
+use Rattle.matching.specs.Internal.Adjacency.{adjacent}
+use Rattle.matching.specs.Internal.Labelling.{unlabelled, frozen, Relabelled}
+use Rattle.matching.specs.Internal.Model.{entry, rowAt, labelOf, labelAt, settledOf, settledAt, among}
+use Rattle.matching.specs.Internal.Search.{Square, Settled, Standing, SearchAt}
+use Rattle.matching.specs.Internal.Progress.{Begun, begunArrays, withLabels}
 use Rattle.matching.proofs.ModelLaws.{entry-inside, entry-set, labelAt-set, settledAt-set, among-add}
 use Rattle.matching.proofs.RowLaws.{square-set}
 use Rattle.matching.proofs.GrowLaws.{row-set}
@@ -77,7 +77,8 @@ module _ (R : List Request) (s : Arrays) (r : ℕ) (S : Settled R s r) where
         ]));
   }
 
-  module _ (rows : List (List ℕ)) (Q : Square (length R) rows) (l : r < length R) (er : getD (s .mates) r 0 ≡ r) (lr : getD (s .labels) r 0 < 3)
+  module _ (rows : List (List ℕ)) (Q : Square (length R) rows) (l : r < length R) (er : getD (s .mates) r 0 ≡ r)
+      (lr : getD (s .labels) r 0 < 3)
       (labels : List ℕ) (L : Relabelled (length R) (s .labels) labels unlabelled) where
     abbrev t : Arrays
     t = begunArrays s r labels
@@ -147,7 +148,8 @@ module _ (R : List Request) (s : Arrays) (r : ℕ) (S : Settled R s r) where
           queue = length-set (s .queue) 0 r ∙ S .sized .queue;
           bases-inside = λ z h. elim (test z r) [
             | same e f ↦
-                let b : getD (set (s .bases) r r) z 0 ≡ r = cc (getD-set-same (s .bases) r r 0 (omega (arith, S .sized .bases, S .sized .few))) in
+                let b : getD (set (s .bases) r r) z 0 ≡ r = cc (getD-set-same (s .bases) r r 0
+                (omega (arith, S .sized .bases, S .sized .few))) in
                 omega arith
             | different e ↦ omega (arith, getD-set-other (s .bases) r z r 0 (eqb-false z r (e .left)), S .sized .bases-inside z h)
           ];
@@ -179,14 +181,25 @@ module _ (R : List Request) (s : Arrays) (r : ℕ) (S : Settled R s r) where
       scanned = λ z. false;
       scanned-is = λ z. refl;
       within = omega arith;
-      searching = search-begin (adjacent R) M (S .label) (S .base) r (S .between) (entry-inside m (s .mates) r l ∙ er) root-free state starts
+      searching =
+          search-begin (adjacent R) M (S .label) (S .base) r (S .between) (entry-inside m (s .mates) r l ∙ er) root-free state starts
           (λ z f. let e = entry-set m (s .bases) r r z l (omega (arith, S .sized .bases, S .sized .few)) in elim (test z r) [
             | same g i ↦ impossible (cc (root-free))
             | different g ↦ cc (S .base-is z)
           ]);
     }
 
-module _ (R : List Request) (symmetric : Symmetric (adjacent R)) (r : ℕ) (s : Arrays) (rows : List (List ℕ)) (h : ℕ) (at : SearchAt R r s rows h)
+pub search-begun : {R : List Request} {s : Arrays} {r m : ℕ} {rows after : List (List ℕ)} {labels bases queue : List ℕ} → Settled R s r
+    → Square m rows
+    → m ≡ length R → r < m → getD (s .mates) r 0 ≡ r → getD (s .labels) r 0 < 3
+    → Begun m r (s .mates) (s .labels) (s .bases) (s .queue) rows labels bases queue after
+    → SearchAt R r (arrays (s .mates) labels bases (s .parents) queue 1) after 0
+search-begun S Q number l exposed free B =
+    rw (B .row, B .label, B .base, B .queued)
+    (search-begins _ _ _ S _ (rw number at Q) (rw number at l) exposed free (B .free) (rw number at (B .unlabelling)))
+
+module _ (R : List Request) (symmetric : Symmetric (adjacent R)) (r : ℕ) (s : Arrays) (rows : List (List ℕ)) (h : ℕ)
+    (at : SearchAt R r s rows h)
     (over : s .clock ≤ h) (labels : List ℕ) (L : Relabelled (length R) (s .labels) labels frozen) where
   abbrev T : Standing R r s rows
   T = at .standing
@@ -218,12 +231,15 @@ module _ (R : List Request) (symmetric : Symmetric (adjacent R)) (r : ℕ) (s : 
     base = T .state .base;
     label-is = label-end;
     base-is = T .stands .base-is;
-    between = rw add-one (freezes (adjacent R) symmetric (entry (length R) (s .mates)) (T .frozen-label) (T .frozen-base) r (T .between) (T .state) (at .scanned)
-        (at .searching) all-scanned);
+    between =
+        rw add-one
+        (freezes (adjacent R) symmetric (entry (length R) (s .mates)) (T .frozen-label) (T .frozen-base) r (T .between) (T .state)
+        (at .scanned) (at .searching) all-scanned);
   }
 
 -- between searches the parents and the queue say nothing, and of the labels only those of frozen vertices do
-pub settled-alike : (R : List Request) (s : Arrays) (labels parents queue : List ℕ) (clock n : ℕ) → length labels ≡ 512 → length parents ≡ 512 → length queue ≡ 512
+pub settled-alike : (R : List Request) (s : Arrays) (labels parents queue : List ℕ) (clock n : ℕ) → length labels ≡ 512
+    → length parents ≡ 512 → length queue ≡ 512
     → ((z : ℕ) → settledAt (length R) (s .labels) z ≡ settledAt (length R) labels z) → Settled R s n
     → Settled R (arrays (s .mates) labels (s .bases) parents queue clock) n
 settled-alike R s labels parents queue clock n l p q alike S = record {
@@ -243,6 +259,7 @@ settled-alike R s labels parents queue clock n l p q alike S = record {
   between = S .between;
 }
 
-pub rested : (R : List Request) (s : Arrays) (parents queue : List ℕ) (clock n : ℕ) → length parents ≡ 512 → length queue ≡ 512 → Settled R s n
+pub rested : (R : List Request) (s : Arrays) (parents queue : List ℕ) (clock n : ℕ) → length parents ≡ 512 → length queue ≡ 512
+    → Settled R s n
     → Settled R (arrays (s .mates) (s .labels) (s .bases) parents queue clock) n
 rested R s parents queue clock n p q S = settled-alike R s (s .labels) parents queue clock n (S .sized .labels) p q (λ z. refl) S

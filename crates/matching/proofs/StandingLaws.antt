@@ -6,14 +6,15 @@ use mathlib.Core.List.{List}
 use native.Mathlib.Omega.{arith}
 use lib.Dec.{eqb, ltb}
 use lib.ListN.{length, getD}
-use Rattle.ring.proofs.Counting.{count, count-insert, count-le, count-true}
 use Rattle.ring.specs.declared.requests.Request.{Request}
-use Rattle.blossom.proofs.Labels.{Label, Free, Even, Odd, even?, frozen?, is-free, is-even, is-odd, is-frozen, label-case}
-use Rattle.blossom.proofs.State.{State}
-use Rattle.blossom.proofs.Scanning.{Searching}
-use Rattle.matching.specs.Arrays.{Arrays}
-use Rattle.matching.specs.Model.{entry, labelOf}
-use Rattle.matching.specs.Search.{Stands, Standing}
+use Rattle.ring.proofs.Counting.{count, count-insert, count-le, count-true}
+use Rattle.blossom.specs.Internal.Labels.{Label, Free, Even, Odd, even?, frozen?}
+use Rattle.blossom.specs.Internal.State.{State}
+use Rattle.blossom.specs.Internal.Searches.{Searching}
+use Rattle.blossom.proofs.LabelLaws.{is-free, is-even, is-odd, is-frozen, label-case}
+use Rattle.matching.specs.Internal.Arrays.{Arrays}
+use Rattle.matching.specs.Internal.Model.{entry, labelOf}
+use Rattle.matching.specs.Internal.Search.{Stands, Standing}
 use Rattle.matching.proofs.AdjacencyLaws.{mates-inside}
 use Rattle.matching.proofs.ModelLaws.{entry-inside, labelAt-inside, not-free-inside}
 
@@ -47,7 +48,8 @@ module _ (R : List Request) (s : Arrays) (rows : List (List ℕ)) (state : State
   clock-room z h e = omega (arith, S .clock-counts, count-room (λ w. even? (state .label w)) z (length R) h e)
 
   pub clock-most : s .clock ≤ length R
-  clock-most = omega (arith, S .clock-counts, count-le (λ w. even? (state .label w)) (λ w. true) (length R) (λ w l i. refl), count-true (length R))
+  clock-most =
+      omega (arith, S .clock-counts, count-le (λ w. even? (state .label w)) (λ w. true) (length R) (λ w l i. refl), count-true (length R))
 
 -- a vertex that no earlier search froze
 pub unfrozen : (adj : ℕ → ℕ → Bool) (M : ℕ → ℕ) (label : ℕ → Label) (base : ℕ → ℕ) (r : ℕ) (state : State) (done : ℕ → Bool)

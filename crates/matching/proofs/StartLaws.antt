@@ -1,7 +1,7 @@
 -- The greedy start keeps a matching, and with all labels free it is what a first search begins from.
 use Prim.Native.Nat.{ℕ, _+_, _<_, _≤_}
 use mathlib.Core.Path.{_≡_, refl, ap, _∙_}
-use mathlib.Core.Bool.{Bool, true, false, _||_}
+use mathlib.Core.Bool.{Bool, true, false, cond, _||_}
 use mathlib.Core.List.{List}
 use mathlib.Core.Logic.{_⊎_, inl, inr}
 use native.Mathlib.Omega.{arith}
@@ -14,14 +14,15 @@ use Rattle.ring.specs.Requests.{requestsOf}
 use Rattle.ring.proofs.Cases.{same, different, eqb-refl, test, less, not-less, compare}
 use Rattle.sets.specs.Sets.{has}
 use Rattle.neighbours.specs.Neighbours.{Neighbours}
-use Rattle.blossom.proofs.Labels.{Free}
-use Rattle.blossom.proofs.Rows.{Symmetric, Mates, paired, paired-is-row}
+use Rattle.blossom.specs.Internal.Labels.{Free}
+use Rattle.blossom.specs.Internal.Rows.{Symmetric, Mates}
+use Rattle.blossom.proofs.RowLaws.{paired, paired-is-row}
 use Rattle.blossom.proofs.Search.{between-start}
-use Rattle.matching.specs.Arrays.{Arrays}
-use Rattle.matching.specs.Adjacency.{adjacent}
-use Rattle.matching.specs.Model.{entry, settledOf, settledAt}
-use Rattle.matching.specs.Search.{Settled}
-use Rattle.matching.specs.Start.{Identity, Matched, Partner}
+use Rattle.matching.specs.Internal.Arrays.{Arrays}
+use Rattle.matching.specs.Internal.Adjacency.{adjacent}
+use Rattle.matching.specs.Internal.Model.{entry, settledOf, settledAt}
+use Rattle.matching.specs.Internal.Search.{Settled}
+use Rattle.matching.specs.Internal.Start.{Identity, Matched, Partner}
 use Rattle.matching.proofs.AdjacencyLaws.{adjacent-symmetric}
 use Rattle.matching.proofs.AroundLaws.{around-some}
 use Rattle.matching.proofs.ModelLaws.{entry-inside, entry-set}
@@ -32,6 +33,11 @@ own-turn l i inside h z k = elim (test z i) [
   | same s e ↦ cc (getD-set-same l i i 0 inside)
   | different d ↦ getD-set-other l i z i 0 (eqb-false z i (d .left)) ∙ h z (omega (arith, eqb-false z i (d .left)))
 ]
+
+-- the look for a partner begins behind i at most
+pub look-most : (b : Bool) (i : ℕ) → cond b (i + 1) 0 ≤ i + 1
+look-most true i = omega arith
+look-most false i = omega arith
 
 pub identity-entry : (m : ℕ) (l : List ℕ) → m ≤ 512 → Identity l → (z : ℕ) → entry m l z ≡ z
 unfolding entry
@@ -73,10 +79,12 @@ module _ (R : List Request) (mates : List ℕ) (i : ℕ) where
       either false e = e
 
   -- the best so far, or one of the set of neighbours that is exposed
-  pub partner-better : (around : List ℕ) (best j r : ℕ) → Neighbours R i around → i < length R → j < length R → has around j ≡ true → Partner R mates i best
+  pub partner-better : (around : List ℕ) (best j r : ℕ) → Neighbours R i around → i < length R → j < length R → has around j ≡ true
+      → Partner R mates i best
       → (r ≡ best) ⊎ ((r ≡ j) × (i ≡ j → ⊥) × (getD mates j 0 ≡ j)) → Partner R mates i r
   partner-better around best j r N k l member P (inl e) = rw e P
-  partner-better around best j r N k l member P (inr (e, other, exposed)) = rw e (partner-found j l exposed (around-some R i around j N k l other member))
+  partner-better around best j r N k l member P (inr (e, other, exposed)) =
+      rw e (partner-found j l exposed (around-some R i around j N k l other member))
 
 -- the stores of `pair_up`
 pub matched-paired : (ends mates : List ℕ) (i j : ℕ) → Matched (requestsOf ends) mates → i < length (requestsOf ends) → getD mates i 0 ≡ i

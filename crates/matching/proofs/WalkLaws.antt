@@ -6,29 +6,27 @@ use mathlib.Core.List.{List}
 use native.Mathlib.Omega.{arith}
 use lib.Dec.{eqb}
 use lib.ListN.{length, getD}
-use Rattle.ring.proofs.Cases.{same, different, eqb-refl, test, keep-apart, two}
 use Rattle.ring.specs.declared.requests.Request.{Request}
+use Rattle.ring.proofs.Cases.{same, different, eqb-refl, test, keep-apart, two, and-true}
 use Rattle.sets.specs.Sets.{has}
-use Rattle.blossom.proofs.Labels.{Even, Odd}
-use Rattle.blossom.proofs.Rows.{Symmetric}
-use Rattle.blossom.proofs.State.{State, below, Invariant}
+use Rattle.blossom.specs.Internal.Labels.{Even, Odd}
+use Rattle.blossom.specs.Internal.Rows.{Symmetric}
+use Rattle.blossom.specs.Internal.State.{State, below, Invariant}
 use Rattle.blossom.proofs.Cycle.{cycle, Walk, walk-less}
 use Rattle.blossom.proofs.Climbing.{Climbing, sided, climb-begin, climb-odd, climb-next, climb-marks, climb-ends, climb-walk}
-use Rattle.matching.specs.Arrays.{Arrays}
-use Rattle.matching.specs.Adjacency.{adjacent}
-use Rattle.matching.specs.Climbs.{baseAbove, baseAfter, visited, passed, goesOn, went, Marks, Climbable, Climbed}
-use Rattle.matching.specs.Model.{entry}
-use Rattle.matching.specs.Search.{Standing, ScanAt}
+use Rattle.matching.specs.Internal.Arrays.{Arrays}
+use Rattle.matching.specs.Internal.Adjacency.{adjacent}
+use Rattle.matching.specs.Internal.Climbs.{baseAbove, baseAfter, visited, passed, goesOn, went, Marks, Climbable, Climbed}
+use Rattle.matching.specs.Internal.Model.{entry}
+use Rattle.matching.specs.Internal.Search.{Standing, ScanAt}
 use Rattle.matching.proofs.ModelLaws.{entry-inside}
 use Rattle.matching.proofs.StandingLaws.{even-inside, mate-inside, clock-most}
 use Rattle.matching.proofs.CycleLaws.{row-below}
 
-pub scan-inside : (R : List Request) → Symmetric (adjacent R) → (r : ℕ) (s : Arrays) (rows : List (List ℕ)) (h x y : ℕ) → ScanAt R r s rows h x y → x < length R
-scan-inside R symmetric r s rows h x y at = even-inside R s rows (at .standing .state) (at .standing .stands) x (at .scanning .partly .x-even)
-
-both : (a b : Bool) → (a && b) ≡ true → two a b ≡ two true true
-both true b e = cc
-both false b e = cc
+pub scan-inside : (R : List Request) → Symmetric (adjacent R) → (r : ℕ) (s : Arrays) (rows : List (List ℕ)) (h x y : ℕ)
+    → ScanAt R r s rows h x y → x < length R
+scan-inside R symmetric r s rows h x y at =
+    even-inside R s rows (at .standing .state) (at .standing .stands) x (at .scanning .partly .x-even)
 
 neither : (a b : Bool) → (not a && not b) ≡ true → two a b ≡ two false false
 neither true b e = cc
@@ -42,7 +40,8 @@ either false false e = cc
 
 -- the walk up from x against y
 module _ (R : List Request) (symmetric : Symmetric (adjacent R)) (r : ℕ) (s : Arrays) (rows : List (List ℕ)) (T : Standing R r s rows)
-    (I : Invariant (adjacent R) (entry (length R) (s .mates)) r (T .state)) (x y : ℕ) (ex : T .state .label x ≡ Even) (ey : T .state .label y ≡ Even) where
+    (I : Invariant (adjacent R) (entry (length R) (s .mates)) r (T .state)) (x y : ℕ)
+    (ex : T .state .label x ≡ Even) (ey : T .state .label y ≡ Even) where
   abbrev m : ℕ
   m = length R
 
@@ -74,7 +73,9 @@ module _ (R : List Request) (symmetric : Symmetric (adjacent R)) (r : ℕ) (s : 
       mate-odd = climb-odd (adjacent R) symmetric M r state I x y ex ey marked b C (cc free)
 
       parent-is : state .parent (M b) ≡ getD (s .parents) (getD (s .mates) b 0) 0
-      parent-is = T .stands .parent-is (M b) mate-odd ∙ (ap (entry m (s .parents)) mate-is ∙ entry-inside m (s .parents) (getD (s .mates) b 0) mate-in)
+      parent-is =
+          T .stands .parent-is (M b) mate-odd
+          ∙ (ap (entry m (s .parents)) mate-is ∙ entry-inside m (s .parents) (getD (s .mates) b 0) mate-in)
 
       parent-in : getD (s .parents) (getD (s .mates) b 0) 0 < m
       parent-in = rw parent-is at (even-inside R s rows state (T .stands) (state .parent (M b)) (I .parent-even (M b) mate-odd))
@@ -105,15 +106,16 @@ module _ (R : List Request) (symmetric : Symmetric (adjacent R)) (r : ℕ) (s : 
 
   arrived : (n : ℕ) → going n ≡ true → Arrived n
   arrived zero w =
-      let e : state .base x ≡ getD (s .bases) x 0 = T .stands .base-is x ∙ entry-inside m (s .bases) x (even-inside R s rows state (T .stands) x ex) in
+      let e : state .base x ≡ getD (s .bases) x 0 = T .stands .base-is x
+      ∙ entry-inside m (s .bases) x (even-inside R s rows state (T .stands) x ex) in
       let o : state .order (state .base x) + 0 < s .clock = omega (arith, I .order-base x ex, I .order-clock x ex, T .stands .clock-is) in
       record { climbing = rw e at (climb-begin (adjacent R) symmetric M r state I x y ex ey); early = rw e at o }
   arrived (suc n) w =
-      let p = both (going n) (goesOn rows (s .mates) y (base n)) w in
-      let A = arrived n (cc p) in
+      let p = and-true (going n) (goesOn rows (s .mates) y (base n)) w in
+      let A = arrived n (p .0) in
       record {
-        climbing = next (λ v. marks n v) (base n) (A .climbing) (cc p);
-        early = omega (arith, A .early, next-less (λ v. marks n v) (base n) (A .climbing) (cc p));
+        climbing = next (λ v. marks n v) (base n) (A .climbing) (p .1);
+        early = omega (arith, A .early, next-less (λ v. marks n v) (base n) (A .climbing) (p .1));
       }
 
   climbing-at : (n b : ℕ) → b ≡ base n → Arrived n → Climbing M state x y (λ v. marks n v) b
@@ -126,8 +128,8 @@ module _ (R : List Request) (symmetric : Symmetric (adjacent R)) (r : ℕ) (s : 
     base-inside = λ n w. omega (arith, inside (λ v. marks n v) (base n) (arrived n w .climbing));
     mate-inside = λ n w. omega (arith, mate-in (λ v. marks n v) (base n) (arrived n w .climbing));
     parent-inside = λ n w.
-        let p = both (going n) (goesOn rows (s .mates) y (base n)) w in
-        omega (arith, parent-in (λ v. marks n v) (base n) (arrived n (cc p) .climbing) (cc p));
+        let p = and-true (going n) (goesOn rows (s .mates) y (base n)) w in
+        omega (arith, parent-in (λ v. marks n v) (base n) (arrived n (p .0) .climbing) (p .1));
     short = λ n w. omega (arith, arrived n w .early, clock-most R s rows state (T .stands));
   }
 
@@ -135,9 +137,9 @@ module _ (R : List Request) (symmetric : Symmetric (adjacent R)) (r : ℕ) (s : 
   visited-is : (n : ℕ) → going n ≡ true → (c : ℕ) → c < m → visited (s .mates) (s .bases) (s .parents) x n c ≡ marks n (getD (s .mates) c 0)
   visited-is zero w c l = refl
   visited-is (suc n) w c l =
-      let p = both (going n) (goesOn rows (s .mates) y (base n)) w in
-      let k = mate-is (λ v. marks n v) (base n) (arrived n (cc p) .climbing) in
-      let h = visited-is n (cc p) c l in
+      let p = and-true (going n) (goesOn rows (s .mates) y (base n)) w in
+      let k = mate-is (λ v. marks n v) (base n) (arrived n (p .0) .climbing) in
+      let h = visited-is n (p .0) c l in
       let e = entry-inside m (s .mates) c l in
       elim (test c (base n)) [
         | same f g ↦ cc (eqb-refl (getD (s .mates) c 0))
@@ -173,5 +175,6 @@ module _ (R : List Request) (symmetric : Symmetric (adjacent R)) (r : ℕ) (s : 
     pub added-is : (v : ℕ) → has (after .cycle) v ≡ (sided M state x y v || has (before .cycle) v)
     added-is v = cc (E .marked .member v, marks-are v)
 
-    pub on-is : (c : ℕ) → c < m → getD (after .bases-on) c 0 ≡ cond (sided M state x y (getD (s .mates) c 0)) 1 (getD (before .bases-on) c 0)
+    pub on-is : (c : ℕ) → c < m
+        → getD (after .bases-on) c 0 ≡ cond (sided M state x y (getD (s .mates) c 0)) 1 (getD (before .bases-on) c 0)
     on-is c l = cc (E .marked .on-is c, visited-is n (E .marked .went-on) c l, marks-are (getD (s .mates) c 0))

@@ -1,11 +1,11 @@
-// A walk up the tree from one end of the edge that closes a blossom: it marks the cycle's vertices above this end alone and the bases that hang from
-// them, and finds the base of the blossom.
-use super::steps::wide;
+// A walk up the tree from one end of the edge that closes a blossom: it marks the cycle's vertices above this end alone and the bases that
+// hang from them, and finds the base of the blossom.
+use ring::numbers::wide;
 use sets::add;
 ghost use mathlib.Core.Path.{_≡_};
 ghost use Prim.Native.Nat.{_<_};
 ghost use lib.ListN.{length, getD};
-ghost use Rattle.matching.specs.Climbs.{goesOn, marks, Climbable, Climbed, ClimbedBoth};
+ghost use Rattle.matching.specs.Internal.Climbs.{goesOn, marks, Climbable, Climbed, ClimbedBoth};
 
 // Whether the base b has a mate that is not above y.
 fn goes_on(rows: &[[u16; 512]], mates: &[u16; 512], y: usize, b: usize) -> bool
@@ -30,8 +30,8 @@ fn above(parents: &[u16; 512], bases: &[u16; 512], o: usize) -> usize
     wide(bases[p])
 }
 
-// The walk up from x against y. The odd vertices that it passes get the side; the bases that it visits are marked in `on`. The base where it ends.
-// `steps` stays below 512.
+// The walk up from x against y. The odd vertices that it passes get the side; the bases that it visits are marked in `on`. The base where
+// it ends. `steps` stays below 512.
 fn climb(
     rows: &[[u16; 512]],
     mates: &[u16; 512],
@@ -44,8 +44,11 @@ fn climb(
     y: usize,
     side: u8,
 ) -> usize
-    requires { ⌜ Climbable (now rows) (now mates) (now bases) (now parents) x y × (length (now sides) ≡ 512) × (length (now cycle) ≡ 8) × (length (now on) ≡ 512) ⌝ }
-    ensures { λ b. ⌜ Climbed (now (rows .entry)) (now (mates .entry)) (now (bases .entry)) (now (parents .entry)) x y side b (marks (now (sides .entry)) (now (cycle .entry)) (now (on .entry))) (marks (now (sides .exit)) (now (cycle .exit)) (now (on .exit))) ⌝ }
+    requires { ⌜ Climbable (now rows) (now mates) (now bases) (now parents) x y × (length (now sides) ≡ 512) × (length (now cycle) ≡ 8)
+        × (length (now on) ≡ 512) ⌝ }
+    ensures { λ b. ⌜ Climbed (now (rows .entry)) (now (mates .entry)) (now (bases .entry)) (now (parents .entry)) x y side b
+        (marks (now (sides .entry)) (now (cycle .entry)) (now (on .entry)))
+        (marks (now (sides .exit)) (now (cycle .exit)) (now (on .exit))) ⌝ }
 {
     let mut b = wide(bases[x]);
     let mut steps: usize = 0;
@@ -72,8 +75,12 @@ pub fn climb_both(
     x: usize,
     y: usize,
 ) -> usize
-    requires { ⌜ Climbable (now rows) (now mates) (now bases) (now parents) x y × Climbable (now rows) (now mates) (now bases) (now parents) y x × (length (now sides) ≡ 512) × (length (now cycle) ≡ 8) × (length (now on) ≡ 512) ⌝ }
-    ensures { λ b. ⌜ ClimbedBoth (now (rows .entry)) (now (mates .entry)) (now (bases .entry)) (now (parents .entry)) x y b (marks (now (sides .entry)) (now (cycle .entry)) (now (on .entry))) (marks (now (sides .exit)) (now (cycle .exit)) (now (on .exit))) ⌝ }
+    requires { ⌜ Climbable (now rows) (now mates) (now bases) (now parents) x y
+        × Climbable (now rows) (now mates) (now bases) (now parents) y x × (length (now sides) ≡ 512) × (length (now cycle) ≡ 8)
+        × (length (now on) ≡ 512) ⌝ }
+    ensures { λ b. ⌜ ClimbedBoth (now (rows .entry)) (now (mates .entry)) (now (bases .entry)) (now (parents .entry)) x y b
+        (marks (now (sides .entry)) (now (cycle .entry)) (now (on .entry)))
+        (marks (now (sides .exit)) (now (cycle .exit)) (now (on .exit))) ⌝ }
 {
     let b = climb(rows, mates, bases, parents, sides, cycle, on, x, y, 1);
     climb(rows, mates, bases, parents, sides, cycle, on, y, x, 2);

@@ -3,7 +3,7 @@ use sets::next;
 ghost use mathlib.Core.Path.{_≡_};
 ghost use Prim.Native.Nat.{_<_, _≤_};
 ghost use lib.ListN.{length};
-ghost use Rattle.matching.specs.Progress.{freeIn, apartIn, relevantIn, First};
+ghost use Rattle.matching.specs.Internal.Progress.{freeIn, apartIn, relevantIn, First};
 
 // The first free vertex of the set from `from` on, or m.
 pub fn next_free(around: &[u64; 8], labels: &[u8; 512], from: usize, m: usize) -> usize

@@ -2,7 +2,7 @@
 ghost use mathlib.Core.Path.{_≡_};
 ghost use Prim.Native.Nat.{_≤_};
 ghost use lib.ListN.{length};
-ghost use Rattle.matching.specs.Labelling.{unlabelled, frozen, Relabelled};
+ghost use Rattle.matching.specs.Internal.Labelling.{unlabelled, frozen, Relabelled};
 
 fn unlabelled(label: u8) -> u8
     ensures { λ r. ⌜ r ≡ unlabelled label ⌝ }

@@ -1,18 +1,19 @@
 // The searches from all exposed requests.
+use super::counts::pair_count;
+use super::matchings::Matching;
 use super::searches::search;
-use super::steps::wide;
 use neighbours::neighbours;
+use ring::numbers::wide;
 use sets::next;
 ghost use mathlib.Core.Path.{_≡_};
-ghost use mathlib.Core.Bool.{true, false, _&&_};
-ghost use Prim.Native.Nat.{ℕ, _<_, _≤_};
+ghost use mathlib.Core.Bool.{_&&_};
+ghost use Prim.Native.Nat.{_<_, _≤_};
 ghost use lib.Dec.{eqb, ltb};
 ghost use lib.ListN.{length, getD};
 ghost use Rattle.ring.specs.Requests.{requestsOf};
-ghost use Rattle.matching.specs.Adjacency.{adjacent};
-ghost use Rattle.matching.specs.Arrays.{rest};
-ghost use Rattle.matching.specs.Search.{Square, Settled};
-ghost use Rattle.matching.specs.Progress.{Mapped, Due, Rooted};
+ghost use Rattle.matching.specs.Internal.Adjacency.{Alone};
+ghost use Rattle.matching.specs.Internal.Search.{Square};
+ghost use Rattle.matching.specs.Internal.Progress.{Mapped, Due, Rooted, Ready};
 
 // Whether r is exposed and not frozen.
 fn is_open(mates: &[u16; 512], labels: &[u8; 512], r: usize) -> bool
@@ -28,7 +29,7 @@ fn is_open(mates: &[u16; 512], labels: &[u8; 512], r: usize) -> bool
 // Whether no request is adjacent to r.
 fn alone(ends: &[u16], sets: &[[u64; 8]], r: usize, m: usize) -> bool
     requires { ⌜ (m ≡ length (requestsOf (now ends))) × (r < m) × Mapped (requestsOf (now ends)) (now sets) ⌝ }
-    ensures { λ t. ⌜ (t ≡ true → (z : ℕ) → adjacent (requestsOf (now (ends .entry))) r z ≡ false) ⌝ }
+    ensures { λ t. ⌜ Alone (requestsOf (now (ends .entry))) r t ⌝ }
 {
     let mut around = [0u64; 8];
     neighbours(ends, sets, r, &mut around);
@@ -39,7 +40,7 @@ fn alone(ends: &[u16], sets: &[[u64; 8]], r: usize, m: usize) -> bool
     next(&around, r + 1, m) == m
 }
 
-// From `from` on, freezes the open requests to which none is adjacent, up to the first one from which a search is due; gives that one, or m.
+// From `from` on, freezes the open requests to which none is adjacent, up to the first from which a search is due; gives that one, or m.
 pub fn settle_alone(
     ends: &[u16],
     sets: &[[u64; 8]],
@@ -50,7 +51,8 @@ pub fn settle_alone(
     m: usize,
 ) -> usize
     requires { ⌜ Due (requestsOf (now ends)) (now sets) (now mates) (now labels) (now bases) from m ⌝ }
-    ensures { λ r. ⌜ Rooted (requestsOf (now (ends .entry))) (now (sets .entry)) (now (mates .entry)) (now (labels .exit)) (now (bases .exit)) r m × (from ≤ r) ⌝ }
+    ensures { λ r. ⌜ Rooted (requestsOf (now (ends .entry))) (now (sets .entry)) (now (mates .entry)) (now (labels .exit))
+        (now (bases .exit)) r m × (from ≤ r) ⌝ }
 {
     let mut r = from;
     while r < m {
@@ -66,135 +68,100 @@ pub fn settle_alone(
     m
 }
 
-// Searches from each open request from `first` on that has a neighbour, with a row for each request.
+// Searches from each open request from the root on that has a neighbour, with a row for each request. The state is taken apart for the
+// searches, which are lent its arrays one by one.
 fn search_all(
     ends: &[u16],
     sets: &[[u64; 8]],
     rows: &mut [[u16; 512]],
-    mates: &mut [u16; 512],
-    labels: &mut [u8; 512],
-    bases: &mut [u16; 512],
-    first: usize,
+    matching: Matching,
     m: usize,
-)
-    requires { ⌜ Rooted (requestsOf (now ends)) (now sets) (now mates) (now labels) (now bases) first m × Square m (now rows) ⌝ }
-    ensures { λ _. ⌜ Settled (requestsOf (now (ends .entry))) (rest (now (mates .exit)) (now (labels .exit)) (now (bases .exit))) m ⌝ }
+) -> Matching
+    requires { ⌜ Ready (requestsOf (now ends)) (now sets) matching m × Square m (now rows) ⌝ }
+    ensures { λ s. ⌜ Ready (requestsOf (now (ends .entry))) (now (sets .entry)) s m × (s .root ≡ m) ⌝ }
 {
+    let mut mates = matching.mates;
+    let mut labels = matching.labels;
+    let mut bases = matching.bases;
     let mut parents = [0u16; 512];
     let mut queue = [0u16; 512];
-    let mut r = first;
+    let mut r = matching.root;
     while r < m {
         search(
             ends,
             sets,
             rows,
-            mates,
-            labels,
-            bases,
+            &mut mates,
+            &mut labels,
+            &mut bases,
             &mut parents,
             &mut queue,
             r,
             m,
         );
-        r = settle_alone(ends, sets, mates, labels, bases, r + 1, m);
+        r = settle_alone(ends, sets, &mates, &mut labels, &mut bases, r + 1, m);
+    }
+    Matching {
+        mates: mates,
+        labels: labels,
+        bases: bases,
+        root: r,
+        size: pair_count(&mates, m),
     }
 }
 
-fn with_64_rows(
-    ends: &[u16],
-    sets: &[[u64; 8]],
-    mates: &mut [u16; 512],
-    labels: &mut [u8; 512],
-    bases: &mut [u16; 512],
-    first: usize,
-    m: usize,
-)
-    requires { ⌜ Rooted (requestsOf (now ends)) (now sets) (now mates) (now labels) (now bases) first m × (m ≤ 64) ⌝ }
-    ensures { λ _. ⌜ Settled (requestsOf (now (ends .entry))) (rest (now (mates .exit)) (now (labels .exit)) (now (bases .exit))) m ⌝ }
+fn with_64_rows(ends: &[u16], sets: &[[u64; 8]], matching: Matching, m: usize) -> Matching
+    requires { ⌜ Ready (requestsOf (now ends)) (now sets) matching m × (m ≤ 64) ⌝ }
+    ensures { λ s. ⌜ Ready (requestsOf (now (ends .entry))) (now (sets .entry)) s m × (s .root ≡ m) ⌝ }
 {
     let zeros = [0u16; 512];
     let mut rows = [zeros; 64];
-    search_all(ends, sets, &mut rows, mates, labels, bases, first, m);
+    search_all(ends, sets, &mut rows, matching, m)
 }
 
-fn with_128_rows(
-    ends: &[u16],
-    sets: &[[u64; 8]],
-    mates: &mut [u16; 512],
-    labels: &mut [u8; 512],
-    bases: &mut [u16; 512],
-    first: usize,
-    m: usize,
-)
-    requires { ⌜ Rooted (requestsOf (now ends)) (now sets) (now mates) (now labels) (now bases) first m × (m ≤ 128) ⌝ }
-    ensures { λ _. ⌜ Settled (requestsOf (now (ends .entry))) (rest (now (mates .exit)) (now (labels .exit)) (now (bases .exit))) m ⌝ }
+fn with_128_rows(ends: &[u16], sets: &[[u64; 8]], matching: Matching, m: usize) -> Matching
+    requires { ⌜ Ready (requestsOf (now ends)) (now sets) matching m × (m ≤ 128) ⌝ }
+    ensures { λ s. ⌜ Ready (requestsOf (now (ends .entry))) (now (sets .entry)) s m × (s .root ≡ m) ⌝ }
 {
     let zeros = [0u16; 512];
     let mut rows = [zeros; 128];
-    search_all(ends, sets, &mut rows, mates, labels, bases, first, m);
+    search_all(ends, sets, &mut rows, matching, m)
 }
 
-fn with_256_rows(
-    ends: &[u16],
-    sets: &[[u64; 8]],
-    mates: &mut [u16; 512],
-    labels: &mut [u8; 512],
-    bases: &mut [u16; 512],
-    first: usize,
-    m: usize,
-)
-    requires { ⌜ Rooted (requestsOf (now ends)) (now sets) (now mates) (now labels) (now bases) first m × (m ≤ 256) ⌝ }
-    ensures { λ _. ⌜ Settled (requestsOf (now (ends .entry))) (rest (now (mates .exit)) (now (labels .exit)) (now (bases .exit))) m ⌝ }
+fn with_256_rows(ends: &[u16], sets: &[[u64; 8]], matching: Matching, m: usize) -> Matching
+    requires { ⌜ Ready (requestsOf (now ends)) (now sets) matching m × (m ≤ 256) ⌝ }
+    ensures { λ s. ⌜ Ready (requestsOf (now (ends .entry))) (now (sets .entry)) s m × (s .root ≡ m) ⌝ }
 {
     let zeros = [0u16; 512];
     let mut rows = [zeros; 256];
-    search_all(ends, sets, &mut rows, mates, labels, bases, first, m);
+    search_all(ends, sets, &mut rows, matching, m)
 }
 
-fn with_512_rows(
-    ends: &[u16],
-    sets: &[[u64; 8]],
-    mates: &mut [u16; 512],
-    labels: &mut [u8; 512],
-    bases: &mut [u16; 512],
-    first: usize,
-    m: usize,
-)
-    requires { ⌜ Rooted (requestsOf (now ends)) (now sets) (now mates) (now labels) (now bases) first m × (m ≤ 512) ⌝ }
-    ensures { λ _. ⌜ Settled (requestsOf (now (ends .entry))) (rest (now (mates .exit)) (now (labels .exit)) (now (bases .exit))) m ⌝ }
+fn with_512_rows(ends: &[u16], sets: &[[u64; 8]], matching: Matching, m: usize) -> Matching
+    requires { ⌜ Ready (requestsOf (now ends)) (now sets) matching m × (m ≤ 512) ⌝ }
+    ensures { λ s. ⌜ Ready (requestsOf (now (ends .entry))) (now (sets .entry)) s m × (s .root ≡ m) ⌝ }
 {
     let zeros = [0u16; 512];
     let mut rows = [zeros; 512];
-    search_all(ends, sets, &mut rows, mates, labels, bases, first, m);
+    search_all(ends, sets, &mut rows, matching, m)
 }
 
 // The same. Rows are what takes memory and time to lay out, so a short list gets few of them.
-pub fn search_from(
-    ends: &[u16],
-    sets: &[[u64; 8]],
-    mates: &mut [u16; 512],
-    labels: &mut [u8; 512],
-    bases: &mut [u16; 512],
-    first: usize,
-    m: usize,
-)
-    requires { ⌜ Rooted (requestsOf (now ends)) (now sets) (now mates) (now labels) (now bases) first m ⌝ }
-    ensures { λ _. ⌜ Settled (requestsOf (now (ends .entry))) (rest (now (mates .exit)) (now (labels .exit)) (now (bases .exit))) m ⌝ }
+pub fn search_from(ends: &[u16], sets: &[[u64; 8]], matching: Matching, m: usize) -> Matching
+    requires { ⌜ Ready (requestsOf (now ends)) (now sets) matching m ⌝ }
+    ensures { λ s. ⌜ Ready (requestsOf (now (ends .entry))) (now (sets .entry)) s m × (s .root ≡ m) ⌝ }
 {
-    if first == m {
-        return;
+    if matching.root == m {
+        return matching;
     }
     if m <= 64 {
-        with_64_rows(ends, sets, mates, labels, bases, first, m);
-        return;
+        return with_64_rows(ends, sets, matching, m);
     }
     if m <= 128 {
-        with_128_rows(ends, sets, mates, labels, bases, first, m);
-        return;
+        return with_128_rows(ends, sets, matching, m);
     }
     if m <= 256 {
-        with_256_rows(ends, sets, mates, labels, bases, first, m);
-        return;
+        return with_256_rows(ends, sets, matching, m);
     }
-    with_512_rows(ends, sets, mates, labels, bases, first, m);
+    with_512_rows(ends, sets, matching, m)
 }

@@ -6,8 +6,9 @@ ghost use mathlib.Core.Bool.{false};
 ghost use mathlib.Core.Logic.{_⊎_};
 ghost use Prim.Native.Nat.{ℕ, _<_};
 ghost use lib.ListN.{length, getD};
-ghost use Rattle.matching.specs.Search.{Square};
-ghost use Rattle.matching.specs.Rows.{belowIn, mixedEntry, Readable, Located, Unmixed, Sparse, AbsorbedRow, AbsorbedVertex, Absorbed};
+ghost use Rattle.matching.specs.Internal.Search.{Square};
+ghost use Rattle.matching.specs.Internal.Rows.{belowIn, mixedEntry, Readable, Located, Unmixed, Sparse};
+ghost use Rattle.matching.specs.Internal.Rows.{AbsorbedRow, AbsorbedVertex, Absorbed};
 
 // Whether z is below the odd vertex v of the tree.
 fn below(
@@ -60,7 +61,8 @@ fn mixed_entry(
     outer
 }
 
-// Row v becomes the row of v, which is above p and not above q, once it is even: row q but for vertices that join. Row v is not read: v is odd.
+// Row v becomes the row of v, which is above p and not above q, once it is even: row q but for vertices that
+// join. Row v is not read, since v is odd.
 fn absorb_row(
     rows: &mut [[u16; 512]],
     labels: &[u8; 512],
@@ -71,7 +73,8 @@ fn absorb_row(
     v: usize,
     m: usize,
 )
-    requires { ⌜ Square m (now rows) × Readable m (now labels) (now mates) p q × (v < m) × (getD (now labels) v 0 ≡ 2) × (length (now joined) ≡ 8) × Unmixed m (now rows) (now labels) (now mates) (now joined) p q v ⌝ }
+    requires { ⌜ Square m (now rows) × Readable m (now labels) (now mates) p q × (v < m) × (getD (now labels) v 0 ≡ 2)
+        × (length (now joined) ≡ 8) × Unmixed m (now rows) (now labels) (now mates) (now joined) p q v ⌝ }
     ensures { λ _. ⌜ AbsorbedRow m (now (rows .entry)) (now (rows .exit)) (now (labels .entry)) (now (mates .entry)) p q v ⌝ }
 {
     copy_row(rows, q, v);
@@ -96,7 +99,9 @@ fn absorb_vertex(
     v: usize,
     m: usize,
 )
-    requires { ⌜ Square m (now rows) × Readable m (now labels) (now mates) x y × (v < m) × ((side ≡ 0) ⊎ (getD (now labels) v 0 ≡ 2)) × (length (now joined) ≡ 8) × (side ≡ 1 → Unmixed m (now rows) (now labels) (now mates) (now joined) x y v) × (side ≡ 2 → Unmixed m (now rows) (now labels) (now mates) (now joined) y x v) ⌝ }
+    requires { ⌜ Square m (now rows) × Readable m (now labels) (now mates) x y × (v < m) × ((side ≡ 0) ⊎ (getD (now labels) v 0 ≡ 2))
+        × (length (now joined) ≡ 8) × (side ≡ 1 → Unmixed m (now rows) (now labels) (now mates) (now joined) x y v)
+        × (side ≡ 2 → Unmixed m (now rows) (now labels) (now mates) (now joined) y x v) ⌝ }
     ensures { λ _. ⌜ AbsorbedVertex m (now (rows .entry)) (now (rows .exit)) (now (labels .entry)) (now (mates .entry)) side x y v ⌝ }
 {
     if side == 1 {
@@ -120,8 +125,11 @@ pub fn absorb(
     y: usize,
     m: usize,
 )
-    requires { ⌜ Square m (now rows) × Readable m (now labels) (now mates) x y × ((v : ℕ) → v < m → (getD (now sides) v 0 ≡ 0) ⊎ (getD (now labels) v 0 ≡ 2)) × Sparse m (now rows) (now labels) (now mates) (now sides) (now cycle) (now joined) x y ⌝ }
-    ensures { λ _. ⌜ Square m (now (rows .exit)) × Absorbed m (now (rows .entry)) (now (rows .exit)) (now (labels .entry)) (now (mates .entry)) (now (sides .entry)) x y ⌝ }
+    requires { ⌜ Square m (now rows) × Readable m (now labels) (now mates) x y
+        × ((v : ℕ) → v < m → (getD (now sides) v 0 ≡ 0) ⊎ (getD (now labels) v 0 ≡ 2))
+        × Sparse m (now rows) (now labels) (now mates) (now sides) (now cycle) (now joined) x y ⌝ }
+    ensures { λ _. ⌜ Square m (now (rows .exit))
+        × Absorbed m (now (rows .entry)) (now (rows .exit)) (now (labels .entry)) (now (mates .entry)) (now (sides .entry)) x y ⌝ }
 {
     let mut v = sets::next(cycle, 0, m);
     while v < m {

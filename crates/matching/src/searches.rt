@@ -9,17 +9,16 @@ use super::labels::unlabel;
 use super::rows::absorb;
 use super::steps::Progress;
 use super::steps::attach;
-use super::steps::wide;
+use super::steps::going;
 use neighbours::neighbours;
+use ring::numbers::wide;
 ghost use mathlib.Core.Path.{_≡_};
 ghost use Prim.Native.Nat.{ℕ, _+_, _<_, _≤_};
-ghost use mathlib.Core.List.{List};
-ghost use lib.ListN.{length, getD, set};
+ghost use lib.ListN.{length, getD};
 ghost use Rattle.ring.specs.Requests.{requestsOf};
-ghost use Rattle.matching.specs.Arrays.{arrays};
-ghost use Rattle.matching.specs.Labelling.{unlabelled, Relabelled};
-ghost use Rattle.matching.specs.Search.{Square, Settled};
-ghost use Rattle.matching.specs.Progress.{Mapped, InSearch, Advanced, InScan, Stepped};
+ghost use Rattle.matching.specs.Internal.Arrays.{arrays};
+ghost use Rattle.matching.specs.Internal.Search.{Square, Settled};
+ghost use Rattle.matching.specs.Internal.Progress.{Mapped, InSearch, Advanced, InScan, Stepped, Begun};
 
 // The edge from x, which is being scanned, to the even y closes a blossom. Its base is where the walk up from x ends, and from y as well.
 fn blossom(
@@ -34,8 +33,13 @@ fn blossom(
     y: usize,
     m: usize,
 ) -> Progress
-    requires { ⌜ InScan (arrays (now mates) (now labels) (now bases) (now parents) (now queue) clock) (now rows) x y m × (getD (now labels) y 0 ≡ 1) ⌝ }
-    ensures { λ p. ⌜ Stepped (arrays (now (mates .entry)) (now (labels .entry)) (now (bases .entry)) (now (parents .entry)) (now (queue .entry)) clock) (now (rows .entry)) x y m (arrays (now (mates .entry)) (now (labels .exit)) (now (bases .exit)) (now (parents .entry)) (now (queue .exit)) (p .clock)) (now (rows .exit)) (p .done) ⌝ }
+    requires { ⌜ InScan (arrays (now mates) (now labels) (now bases) (now parents) (now queue) clock) (now rows) x y m
+        × (getD (now labels) y 0 ≡ 1) ⌝ }
+    ensures { λ p. ⌜ Stepped
+        (arrays (now (mates .entry)) (now (labels .entry)) (now (bases .entry)) (now (parents .entry)) (now (queue .entry)) clock)
+        (now (rows .entry)) x y m
+        (arrays (now (mates .entry)) (now (labels .exit)) (now (bases .exit)) (now (parents .entry)) (now (queue .exit)) (p .clock))
+        (now (rows .exit)) (p .done) ⌝ }
 {
     let mut sides = [0u8; 512];
     let mut cycle = [0u64; 8];
@@ -54,10 +58,7 @@ fn blossom(
     let joined = rebase(bases, queue, &cycle, &on, clock, b, m);
     absorb(rows, labels, mates, &sides, &cycle, &joined, x, y, m);
     let k = promote(labels, queue, &sides, &cycle, clock, m);
-    Progress {
-        clock: k,
-        done: false,
-    }
+    going(k)
 }
 
 // What the edge from x to y does, which is free or even and of another class.
@@ -73,8 +74,13 @@ fn step(
     y: usize,
     m: usize,
 ) -> Progress
-    requires { ⌜ InScan (arrays (now mates) (now labels) (now bases) (now parents) (now queue) clock) (now rows) x y m × (getD (now labels) y 0 < 2) ⌝ }
-    ensures { λ p. ⌜ Stepped (arrays (now (mates .entry)) (now (labels .entry)) (now (bases .entry)) (now (parents .entry)) (now (queue .entry)) clock) (now (rows .entry)) x y m (arrays (now (mates .exit)) (now (labels .exit)) (now (bases .exit)) (now (parents .exit)) (now (queue .exit)) (p .clock)) (now (rows .exit)) (p .done) ⌝ }
+    requires { ⌜ InScan (arrays (now mates) (now labels) (now bases) (now parents) (now queue) clock) (now rows) x y m
+        × (getD (now labels) y 0 < 2) ⌝ }
+    ensures { λ p. ⌜ Stepped
+        (arrays (now (mates .entry)) (now (labels .entry)) (now (bases .entry)) (now (parents .entry)) (now (queue .entry)) clock)
+        (now (rows .entry)) x y m
+        (arrays (now (mates .exit)) (now (labels .exit)) (now (bases .exit)) (now (parents .exit)) (now (queue .exit)) (p .clock))
+        (now (rows .exit)) (p .done) ⌝ }
 {
     if labels[y] == 1 {
         return blossom(rows, mates, labels, bases, parents, queue, clock, x, y, m);
@@ -95,8 +101,15 @@ fn extend(
     clock: usize,
     g: usize,
 ) -> Progress
-    requires { ⌜ ((h : ℕ) × InSearch (requestsOf (now ends)) (arrays (now mates) (now labels) (now bases) (now parents) (now queue) clock) (now rows) h) × (g < clock) × Mapped (requestsOf (now ends)) (now sets) ⌝ }
-    ensures { λ p. ⌜ ((h : ℕ) → Advanced (requestsOf (now (ends .entry))) (arrays (now (mates .entry)) (now (labels .entry)) (now (bases .entry)) (now (parents .entry)) (now (queue .entry)) clock) (now (rows .entry)) h (arrays (now (mates .exit)) (now (labels .exit)) (now (bases .exit)) (now (parents .exit)) (now (queue .exit)) (p .clock)) (now (rows .exit)) (p .done) h) ⌝ }
+    requires { ⌜ ((h : ℕ)
+        × InSearch (requestsOf (now ends)) (arrays (now mates) (now labels) (now bases) (now parents) (now queue) clock) (now rows) h)
+        × (g < clock) × Mapped (requestsOf (now ends)) (now sets) ⌝ }
+    ensures { λ p. ⌜ ((h : ℕ)
+        → Advanced (requestsOf (now (ends .entry)))
+        (arrays (now (mates .entry)) (now (labels .entry)) (now (bases .entry)) (now (parents .entry)) (now (queue .entry)) clock)
+        (now (rows .entry)) h
+        (arrays (now (mates .exit)) (now (labels .exit)) (now (bases .exit)) (now (parents .exit)) (now (queue .exit)) (p .clock))
+        (now (rows .exit)) (p .done) h) ⌝ }
 {
     let m = ends.len() / 2;
     let x = wide(queue[g]);
@@ -112,10 +125,7 @@ fn extend(
         k = p.clock;
         y = next_free(&around, labels, y + 1, m);
     }
-    Progress {
-        clock: k,
-        done: false,
-    }
+    going(k)
 }
 
 // Scans the vertex at place h of the queue.
@@ -131,8 +141,13 @@ fn scan(
     clock: usize,
     h: usize,
 ) -> Progress
-    requires { ⌜ InSearch (requestsOf (now ends)) (arrays (now mates) (now labels) (now bases) (now parents) (now queue) clock) (now rows) h × (h < clock) × Mapped (requestsOf (now ends)) (now sets) ⌝ }
-    ensures { λ p. ⌜ Advanced (requestsOf (now (ends .entry))) (arrays (now (mates .entry)) (now (labels .entry)) (now (bases .entry)) (now (parents .entry)) (now (queue .entry)) clock) (now (rows .entry)) h (arrays (now (mates .exit)) (now (labels .exit)) (now (bases .exit)) (now (parents .exit)) (now (queue .exit)) (p .clock)) (now (rows .exit)) (p .done) (h + 1) ⌝ }
+    requires { ⌜ InSearch (requestsOf (now ends)) (arrays (now mates) (now labels) (now bases) (now parents) (now queue) clock) (now rows) h
+        × (h < clock) × Mapped (requestsOf (now ends)) (now sets) ⌝ }
+    ensures { λ p. ⌜ Advanced (requestsOf (now (ends .entry)))
+        (arrays (now (mates .entry)) (now (labels .entry)) (now (bases .entry)) (now (parents .entry)) (now (queue .entry)) clock)
+        (now (rows .entry)) h
+        (arrays (now (mates .exit)) (now (labels .exit)) (now (bases .exit)) (now (parents .exit)) (now (queue .exit)) (p .clock))
+        (now (rows .exit)) (p .done) (h + 1) ⌝ }
 {
     let m = ends.len() / 2;
     let x = wide(queue[h]);
@@ -148,13 +163,11 @@ fn scan(
         k = p.clock;
         y = next_relevant(&around, labels, bases, x, y + 1, m);
     }
-    Progress {
-        clock: k,
-        done: false,
-    }
+    going(k)
 }
 
-// A search from r begins: r is even and the only one queued, all others that are not frozen are free. The root's row is the matching itself.
+// A search from r begins: r is even and the only one queued, all others that are not frozen are free; the row of r is the
+// matching itself.
 fn begin(
     rows: &mut [[u16; 512]],
     mates: &[u16; 512],
@@ -165,7 +178,8 @@ fn begin(
     m: usize,
 )
     requires { ⌜ (r < m) × (m ≤ 512) × (r < length (now rows)) × (length (now labels) ≡ 512) ⌝ }
-    ensures { λ _. ⌜ (now (rows .exit) ≡ set (now (rows .entry)) r (now (mates .entry))) × ((free : List ℕ) × Relabelled m (now (labels .entry)) free unlabelled × (now (labels .exit) ≡ set free r 1)) × (now (bases .exit) ≡ set (now (bases .entry)) r r) × (now (queue .exit) ≡ set (now (queue .entry)) 0 r) ⌝ }
+    ensures { λ _. ⌜ Begun m r (now (mates .entry)) (now (labels .entry)) (now (bases .entry)) (now (queue .entry)) (now (rows .entry))
+        (now (labels .exit)) (now (bases .exit)) (now (queue .exit)) (now (rows .exit)) ⌝ }
 {
     rows[r] = *mates;
     unlabel(labels, m);
@@ -174,8 +188,50 @@ fn begin(
     queue[0] = r as u16;
 }
 
-// A search from r, which is exposed and not frozen. Every vertex of the queue is extended from before the next one is scanned, so that a blossom is
-// closed only where the tree cannot grow.
+// The tree of a search grows until it enlarges the matching or all its even vertices are scanned. Every vertex of the queue is extended
+// from before the next one is scanned, so that a blossom is closed only where the tree cannot grow.
+fn explore(
+    ends: &[u16],
+    sets: &[[u64; 8]],
+    rows: &mut [[u16; 512]],
+    mates: &mut [u16; 512],
+    labels: &mut [u8; 512],
+    bases: &mut [u16; 512],
+    parents: &mut [u16; 512],
+    queue: &mut [u16; 512],
+) -> Progress
+    requires { ⌜ InSearch (requestsOf (now ends)) (arrays (now mates) (now labels) (now bases) (now parents) (now queue) 1) (now rows) 0
+        × Mapped (requestsOf (now ends)) (now sets) ⌝ }
+    ensures { λ p. ⌜ Advanced (requestsOf (now (ends .entry)))
+        (arrays (now (mates .entry)) (now (labels .entry)) (now (bases .entry)) (now (parents .entry)) (now (queue .entry)) 1)
+        (now (rows .entry)) 0
+        (arrays (now (mates .exit)) (now (labels .exit)) (now (bases .exit)) (now (parents .exit)) (now (queue .exit)) (p .clock))
+        (now (rows .exit)) (p .done) (p .clock) ⌝ }
+{
+    let mut k = 1;
+    let mut g = 0;
+    let mut h = 0;
+    while h < k {
+        if g < k {
+            let p = extend(ends, sets, rows, mates, labels, bases, parents, queue, k, g);
+            if p.done {
+                return p;
+            }
+            k = p.clock;
+            g += 1;
+        } else {
+            let p = scan(ends, sets, rows, mates, labels, bases, parents, queue, k, h);
+            if p.done {
+                return p;
+            }
+            k = p.clock;
+            h += 1;
+        }
+    }
+    going(k)
+}
+
+// A search from r, which is exposed and not frozen.
 pub fn search(
     ends: &[u16],
     sets: &[[u64; 8]],
@@ -188,29 +244,17 @@ pub fn search(
     r: usize,
     m: usize,
 )
-    requires { ⌜ Settled (requestsOf (now ends)) (arrays (now mates) (now labels) (now bases) (now parents) (now queue) 0) r × Square m (now rows) × (m ≡ length (requestsOf (now ends))) × (r < m) × (getD (now mates) r 0 ≡ r) × (getD (now labels) r 0 < 3) × Mapped (requestsOf (now ends)) (now sets) ⌝ }
-    ensures { λ _. ⌜ Settled (requestsOf (now (ends .entry))) (arrays (now (mates .exit)) (now (labels .exit)) (now (bases .exit)) (now (parents .exit)) (now (queue .exit)) 0) (r + 1) × Square m (now (rows .exit)) ⌝ }
+    requires { ⌜ Settled (requestsOf (now ends)) (arrays (now mates) (now labels) (now bases) (now parents) (now queue) 0) r
+        × Square m (now rows) × (m ≡ length (requestsOf (now ends))) × (r < m) × (getD (now mates) r 0 ≡ r) × (getD (now labels) r 0 < 3)
+        × Mapped (requestsOf (now ends)) (now sets) ⌝ }
+    ensures { λ _. ⌜ Settled (requestsOf (now (ends .entry)))
+        (arrays (now (mates .exit)) (now (labels .exit)) (now (bases .exit)) (now (parents .exit)) (now (queue .exit)) 0) (r + 1)
+        × Square m (now (rows .exit)) ⌝ }
 {
     begin(rows, mates, labels, bases, queue, r, m);
-    let mut k = 1;
-    let mut g = 0;
-    let mut h = 0;
-    while h < k {
-        if g < k {
-            let p = extend(ends, sets, rows, mates, labels, bases, parents, queue, k, g);
-            if p.done {
-                return;
-            }
-            k = p.clock;
-            g += 1;
-        } else {
-            let p = scan(ends, sets, rows, mates, labels, bases, parents, queue, k, h);
-            if p.done {
-                return;
-            }
-            k = p.clock;
-            h += 1;
-        }
+    let p = explore(ends, sets, rows, mates, labels, bases, parents, queue);
+    if p.done {
+        return;
     }
     freeze(labels, m);
 }

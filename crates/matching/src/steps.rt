@@ -1,10 +1,12 @@
 // The steps of a search that grow the tree or enlarge the matching.
+use ring::numbers::wide;
 ghost use mathlib.Core.Path.{_≡_};
+ghost use mathlib.Core.Bool.{false};
 ghost use mathlib.Core.List.{[]};
 ghost use Prim.Native.Nat.{_+_, _<_};
 ghost use lib.ListN.{length, getD, set};
-ghost use Rattle.matching.specs.Arrays.{arrays};
-ghost use Rattle.matching.specs.Steps.{grownRow, Attachable, Attached};
+ghost use Rattle.matching.specs.Internal.Arrays.{arrays};
+ghost use Rattle.matching.specs.Internal.Steps.{grownRow, Attachable, Attached};
 
 // What a part of a search leaves: how many vertices are queued, and whether it has enlarged the matching.
 pub struct Progress {
@@ -12,10 +14,14 @@ pub struct Progress {
     pub done: bool,
 }
 
-pub fn wide(x: u16) -> usize
-    ensures { λ r. ⌜ r ≡ x ⌝ }
+// The search goes on, with so many vertices queued.
+pub fn going(clock: usize) -> Progress
+    ensures { λ p. ⌜ p ≡ record { clock = clock; done = false } ⌝ }
 {
-    x as usize
+    Progress {
+        clock: clock,
+        done: false,
+    }
 }
 
 // Row c becomes a copy of row x.
@@ -56,8 +62,10 @@ fn grow(
     y: usize,
     c: usize,
 )
-    requires { ⌜ (x < 512) × (y < 512) × (c < 512) × (clock < 512) × (length (now labels) ≡ 512) × (length (now bases) ≡ 512) × (length (now parents) ≡ 512) × (length (now queue) ≡ 512) ⌝ }
-    ensures { λ _. ⌜ (now (labels .exit) ≡ set (set (now (labels .entry)) y 2) c 1) × (now (bases .exit) ≡ set (now (bases .entry)) c c) × (now (parents .exit) ≡ set (now (parents .entry)) y x) × (now (queue .exit) ≡ set (now (queue .entry)) clock c) ⌝ }
+    requires { ⌜ (x < 512) × (y < 512) × (c < 512) × (clock < 512) × (length (now labels) ≡ 512) × (length (now bases) ≡ 512)
+        × (length (now parents) ≡ 512) × (length (now queue) ≡ 512) ⌝ }
+    ensures { λ _. ⌜ (now (labels .exit) ≡ set (set (now (labels .entry)) y 2) c 1) × (now (bases .exit) ≡ set (now (bases .entry)) c c)
+        × (now (parents .exit) ≡ set (now (parents .entry)) y x) × (now (queue .exit) ≡ set (now (queue .entry)) clock c) ⌝ }
 {
     labels[y] = 2;
     labels[c] = 1;
@@ -89,7 +97,11 @@ pub fn attach(
     y: usize,
 ) -> Progress
     requires { ⌜ Attachable (arrays (now mates) (now labels) (now bases) (now parents) (now queue) clock) (now rows) x y ⌝ }
-    ensures { λ p. ⌜ Attached (arrays (now (mates .entry)) (now (labels .entry)) (now (bases .entry)) (now (parents .entry)) (now (queue .entry)) clock) (now (rows .entry)) x y (arrays (now (mates .exit)) (now (labels .exit)) (now (bases .exit)) (now (parents .exit)) (now (queue .exit)) (p .clock)) (now (rows .exit)) (p .done) ⌝ }
+    ensures { λ p. ⌜ Attached
+        (arrays (now (mates .entry)) (now (labels .entry)) (now (bases .entry)) (now (parents .entry)) (now (queue .entry)) clock)
+        (now (rows .entry)) x y
+        (arrays (now (mates .exit)) (now (labels .exit)) (now (bases .exit)) (now (parents .exit)) (now (queue .exit)) (p .clock))
+        (now (rows .exit)) (p .done) ⌝ }
 {
     let c = wide(mates[y]);
     if c == y {
@@ -101,8 +113,5 @@ pub fn attach(
     }
     grow_row(rows, x, y, c);
     grow(labels, bases, parents, queue, clock, x, y, c);
-    Progress {
-        clock: clock + 1,
-        done: false,
-    }
+    going(clock + 1)
 }

@@ -1,5 +1,5 @@
--- Words and rows of the sets, the sets while they are made, and what crosses by them.
+-- Words of the sets, the sets of the nodes, the sets while they are made, and what crosses by them.
 pub mod WordLaws
-pub mod RowLaws
+pub mod NodeSetLaws
 pub mod PrefixLaws
 pub mod CrossingLaws

@@ -1,22 +1,11 @@
 -- One word of the sets, bit by bit.
 use Prim.Native.Nat.{ℕ, _-_, _^_, _<_}
-use mathlib.Core.Path.{_≡_, refl, _∙_}
-use mathlib.Core.Bool.{Bool, true, false, not, xor}
+use mathlib.Core.Path.{_≡_}
+use mathlib.Core.Bool.{not}
 use native.Mathlib.Nat.{lt-of-le-of-lt}
 use lib.Bits.{bitAnd, bitOr, bitXor, and-le-l, or-lt, xor-lt}
-use Rattle.ring.specs.Chords.{differ}
 use Rattle.sets.proofs.BitLaws.{on, on-and, on-or, on-xor, on-not}
-use Rattle.neighbours.specs.Rows.{crossed}
-
-xor-differ : (p q : Bool) → xor p q ≡ differ p q
-unfolding xor
-xor-differ true true = refl
-xor-differ true false = refl
-xor-differ false true = refl
-xor-differ false false = refl
-
-pub on-differ : (v w k : ℕ) → on (bitXor v w) k ≡ differ (on v k) (on w k)
-on-differ v w k = on-xor v w k ∙ xor-differ (on v k) (on w k)
+use Rattle.neighbours.specs.Internal.NodeSets.{crossed}
 
 -- the requests that do not cross, from words of 64 digits
 pub on-uncrossed : (a behindA b behindB k : ℕ) → a < 2 ^ 64 → behindA < 2 ^ 64 → b < 2 ^ 64 → behindB < 2 ^ 64 → k < 64
@@ -30,9 +19,9 @@ on-uncrossed a behindA b behindB k ha hA hb hB h =
     cc (
       on-not 64 (bitAnd between (2 ^ 64 - 1 - ends)) k (lt-of-le-of-lt (and-le-l between (2 ^ 64 - 1 - ends)) small) h,
       on-and between (2 ^ 64 - 1 - ends) k,
-      on-differ b behindA k,
+      on-xor b behindA k,
       on-not 64 ends k few h,
       on-or (bitXor behindA a) (bitXor behindB b) k,
-      on-differ behindA a k,
-      on-differ behindB b k,
+      on-xor behindA a k,
+      on-xor behindB b k,
     )

@@ -1,3 +1,3 @@
--- `Neighbours` is the promise. `Rows` is for the contracts of the functions inside.
+-- The promises of `prefixes` and `neighbours`.
 pub mod Neighbours
-pub mod Rows
+pub mod Internal

@@ -7,11 +7,11 @@ ghost use lib.ListN.{length};
 ghost use Rattle.ring.specs.Requests.{requestsOf, ValidRequests};
 ghost use Rattle.sets.specs.Sets.{bit};
 ghost use Rattle.neighbours.specs.Neighbours.{empty, Prefixes, Neighbours};
-ghost use Rattle.neighbours.specs.Rows.{Rows, Put, Joined, crossed, Uncrossed};
+ghost use Rattle.neighbours.specs.Internal.NodeSets.{NodeSets, Put, Joined, crossed, Uncrossed};
 
 // Puts number i into the set of node x.
 fn put(sets: &mut [[u64; 8]], x: usize, i: usize)
-    requires { ⌜ Rows (now sets) × (x < 257) × (i < 512) ⌝ }
+    requires { ⌜ NodeSets (now sets) × (x < 257) × (i < 512) ⌝ }
     ensures { λ _. ⌜ Put (now (sets .entry)) (now (sets .exit)) x i ⌝ }
 {
     sets::add(&mut sets[x], i);
@@ -19,7 +19,7 @@ fn put(sets: &mut [[u64; 8]], x: usize, i: usize)
 
 // The set of node x + 1 takes in the set of node x: numbers that are in both leave it.
 fn join(sets: &mut [[u64; 8]], x: usize, words: usize)
-    requires { ⌜ Rows (now sets) × (x < 256) × (words ≤ 8) ⌝ }
+    requires { ⌜ NodeSets (now sets) × (x < 256) × (words ≤ 8) ⌝ }
     ensures { λ _. ⌜ Joined (now (sets .entry)) (now (sets .exit)) x words ⌝ }
 {
     let mut k = 0;
@@ -50,16 +50,18 @@ pub fn prefixes(ends: &[u16], sets: &mut [[u64; 8]])
     }
 }
 
-// The requests that do not cross {a, b}, from words of the sets of a, a + 1, b and b + 1: those with an end at a or b, or with none or both between.
+// The requests that do not cross {a, b}, from words of the sets of a, a + 1, b and b + 1: those with an end at a or b, or with none or both
+// between.
 fn uncrossed_word(a: u64, behind_a: u64, b: u64, behind_b: u64) -> u64
-    ensures { λ r. ⌜ ((k : ℕ) → k < 64 → eqb (bit r k) 1 ≡ not (crossed (eqb (bit a k) 1) (eqb (bit «behind_a» k) 1) (eqb (bit b k) 1) (eqb (bit «behind_b» k) 1))) ⌝ }
+    ensures { λ r. ⌜ ((k : ℕ) → k < 64
+        → eqb (bit r k) 1 ≡ not (crossed (eqb (bit a k) 1) (eqb (bit «behind_a» k) 1) (eqb (bit b k) 1) (eqb (bit «behind_b» k) 1))) ⌝ }
 {
     !((b ^ behind_a) & !((behind_a ^ a) | (behind_b ^ b)))
 }
 
 // Writes the requests that do not cross {a, b}, word by word.
 fn uncrossed(sets: &[[u64; 8]], a: usize, b: usize, words: usize, around: &mut [u64; 8])
-    requires { ⌜ Rows (now sets) × (a < 256) × (b < 256) × (words ≤ 8) × (length (now around) ≡ 8) ⌝ }
+    requires { ⌜ NodeSets (now sets) × (a < 256) × (b < 256) × (words ≤ 8) × (length (now around) ≡ 8) ⌝ }
     ensures { λ _. ⌜ Uncrossed (now (sets .entry)) a b words (now (around .exit)) ⌝ }
 {
     let mut k = 0;
@@ -71,7 +73,8 @@ fn uncrossed(sets: &[[u64; 8]], a: usize, b: usize, words: usize, around: &mut [
 
 // Writes the requests that are compatible with request x.
 pub fn neighbours(ends: &[u16], sets: &[[u64; 8]], x: usize, around: &mut [u64; 8])
-    requires { ⌜ (x < length (requestsOf (now ends))) × (length (requestsOf (now ends)) ≤ 512) × ValidRequests 256 (requestsOf (now ends)) × Prefixes (requestsOf (now ends)) (now sets) × (length (now around) ≡ 8) ⌝ }
+    requires { ⌜ (x < length (requestsOf (now ends))) × (length (requestsOf (now ends)) ≤ 512) × ValidRequests 256 (requestsOf (now ends))
+        × Prefixes (requestsOf (now ends)) (now sets) × (length (now around) ≡ 8) ⌝ }
     ensures { λ _. ⌜ Neighbours (requestsOf (now (ends .entry))) x (now (around .exit)) ⌝ }
 {
     let request = ring::requests::request_at(ends, x);

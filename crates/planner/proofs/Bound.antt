@@ -18,6 +18,7 @@ use Rattle.ring.specs.Ways.{uses}
 use Rattle.ring.specs.Chords.{compatible}
 use Rattle.ring.specs.Plans.{fate, served, Feasible, KeepsOff}
 use Rattle.ring.specs.Matchings.{Pair, pair, IsMatching}
+use Rattle.ring.proofs.PlanLaws.{served-in}
 use Rattle.ring.proofs.Cases.{yes, no, is, same, different, test, eqb-refl, impossible}
 use Rattle.ring.proofs.Counting.{length-le}
 use Rattle.ring.proofs.WayLaws.{seam-uses-last, plain-avoids-last, none-share}
@@ -80,13 +81,6 @@ move-cases Blocked b u c e = impossible (cc)
 move-cases (Served Plain d) b u c e = plain (cc) (cc)
 move-cases (Served Seam d) true u c e = impossible (cc)
 move-cases (Served Seam d) false u c e = lone (cc) (cc) refl
-
--- a served request is one of the list
-served-in : (F : List Fate) (i c : ℕ) (u : Way) → fate F i ≡ Served u c → i < length F
-served-in [] zero c u e = impossible (cc)
-served-in [] (suc i) c u e = impossible (cc)
-served-in (f ∷ F) zero c u e = omega arith
-served-in (f ∷ F) (suc i) c u e = omega (arith, served-in F i c u e)
 
 -- The other request of a colour.
 
@@ -247,7 +241,8 @@ module _ (n w : ℕ) (R : List Request) (valid : ValidRequests n R) (F : List Fa
     once = pairs-once loss couple (length F) (λ i l e. no-partner i i e e) disjoint;
   }
     where
-      every : (Q : Pair → Type 0) → ((i : ℕ) → i < length F → loss i ≡ true → Q (couple i)) → (k : ℕ) → k < length couples → Q (pair couples k)
+      every : (Q : Pair → Type 0) → ((i : ℕ) → i < length F → loss i ≡ true → Q (couple i)) → (k : ℕ) → k < length couples
+          → Q (pair couples k)
       every Q = collect-all loss couple (record { first = 0; second = 0 }) Q (length F)
 
       disjoint : (i j : ℕ) → i < j → j < length F → loss i ≡ true → loss j ≡ true → NotIn i (couple j) × NotIn (partner F i) (couple j)
@@ -268,7 +263,8 @@ module _ (n w : ℕ) (R : List Request) (valid : ValidRequests n R) (F : List Fa
     collect-length loss couple colour (length F),
     length-le (collect loss colour (length F)) w
         (collect-all loss colour 0 (λ c. c < w) (length F) (λ i l e. feasible .colours i (colour i) Seam (lost F i e .seam)))
-        (collect-once loss colour (length F) (λ i j l k e f c. seam-once i j (colour i) (lost F i e .seam) (cc (lost F j f .seam)) (λ s. omega arith))),
+        (collect-once loss colour (length F)
+        (λ i j l k e f c. seam-once i j (colour i) (lost F i e .seam) (cc (lost F j f .seam)) (λ s. omega arith))),
   )
 
 pub ceiling : CeilingLaw
@@ -281,5 +277,6 @@ ceiling n w R valid chain size chained matched F feasible = omega (
 )
 
 -- two thirds follow for the better of the chain count and twice the smaller of the match count and w
-pub two-thirds : (n w : ℕ) (R : List Request) (chain size : ℕ) → Ceiling n w R (chain + min size w) → TwoThirds n w R (max chain (2 * min size w))
+pub two-thirds : (n w : ℕ) (R : List Request) (chain size : ℕ) → Ceiling n w R (chain + min size w)
+    → TwoThirds n w R (max chain (2 * min size w))
 two-thirds n w R chain size top F feasible = omega (arith, top F feasible)

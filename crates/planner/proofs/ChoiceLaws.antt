@@ -30,8 +30,8 @@ use Rattle.planner.specs.declared.answers.PlanAnswer.the-variants as ans
 use Rattle.planner.specs.PairPart.{ByLower, pairPart}
 use Rattle.planner.specs.Plan.{partUsed, summary}
 use Rattle.planner.specs.Promise.{PlanPromise}
-use Rattle.planner.specs.Writing.{pairTable}
-use Rattle.planner.specs.Choosing.{Choosable, Chosen}
+use Rattle.planner.specs.Internal.Writing.{pairTable}
+use Rattle.planner.specs.Internal.Choosing.{Choosable, Chosen}
 use Rattle.planner.proofs.MateLaws.{matching-size}
 use Rattle.planner.proofs.PairLaws.{pair-part-serves}
 use Rattle.planner.proofs.PlanLaws.{plan-pair, plan-chain, demand}
@@ -60,7 +60,11 @@ module _ (n w : ℕ) (ends mates table : List ℕ) (chain size : ℕ) (choosable
       let p = pair-count matched paired e f in
       let s : matched ≡ length P = omega (arith, choosable .matched) in
       let more : served (chainPart n w R) < served (pairPart n w R P) = omega arith in
-      record { table = rw (plan-pair n w R P more) g; counts = rw (lt-ltb (served (chainPart n w R)) (served (pairPart n w R P)) more) (cc) }
+      record {
+        table = rw (plan-pair n w R P more) g;
+        counts =
+            rw (lt-ltb (served (chainPart n w R)) (served (pairPart n w R P)) more) (cc);
+      }
 
   -- it does not, and the chain part stays
   pub chain-chosen : (matched paired : ℕ) → matched ≡ size → paired ≡ 2 * min matched w → paired ≤ chain
@@ -71,11 +75,16 @@ module _ (n w : ℕ) (ends mates table : List ℕ) (chain size : ℕ) (choosable
       let p = pair-count matched paired e f in
       let s : matched ≡ length P = omega (arith, choosable .matched) in
       let less : served (pairPart n w R P) ≤ served (chainPart n w R) = omega arith in
-      record { table = rw (plan-chain n w R P less) (choosable .table); counts = rw (le-ltb (served (chainPart n w R)) (served (pairPart n w R P)) less) (cc) }
+      record {
+        table = rw (plan-chain n w R P less) (choosable .table);
+        counts =
+            rw (le-ltb (served (chainPart n w R)) (served (pairPart n w R P)) less) (cc);
+      }
 
 -- The first m entries after the chain part is written, and the others.
 
-module _ (n w : ℕ) (R : List Request) (valid : ValidRequests n R) (before middle : List ℕ) (count : ℕ) (coloured : Coloured n w R before middle count) where
+module _ (n w : ℕ) (R : List Request) (valid : ValidRequests n R) (before middle : List ℕ) (count : ℕ)
+    (coloured : Coloured n w R before middle count) where
   rest-stays : drop (length R) middle ≡ drop (length R) before
   rest-stays =
       rw (coloured .table)
@@ -86,12 +95,14 @@ module _ (n w : ℕ) (R : List Request) (valid : ValidRequests n R) (before midd
   coloured-length room =
       ap length (coloured .table)
       ∙ length-front before (map fateNumber (chainPart n w R)) (length R)
-      (length-map (chainPart n w R) fateNumber ∙ (chain-is-optimal n w R valid .feasible .each ∙ sym (length-take-le (length R) before room)))
+      (length-map (chainPart n w R) fateNumber
+      ∙ (chain-is-optimal n w R valid .feasible .each ∙ sym (length-take-le (length R) before room)))
 
   pub coloured-stays : middle ≡ map fateNumber (chainPart n w R) ++ drop (length R) middle
   coloured-stays = rw rest-stays (coloured .table)
 
-  pub chosen-from : (P : List Pair) (after : List ℕ) (counts : Summary) → Chosen n w R P middle after counts → Chosen n w R P before after counts
+  pub chosen-from : (P : List Pair) (after : List ℕ) (counts : Summary) → Chosen n w R P middle after counts
+      → Chosen n w R P before after counts
   chosen-from P after counts chosen = record { table = rw (← rest-stays) (chosen .table); counts = chosen .counts }
 
 -- what the choice asks, from what the chain part and the matching promise
@@ -114,7 +125,8 @@ choosable-if n w ends before middle chain found limits coloured maximum =
     }
 
 -- a call that is not turned down is within the limits
-pub made-fits : (n w : ℕ) (ends : List ℕ) (entries : ℕ) (r : Ring) → callAnswer n w ends entries ≡ ring.Made r → CallLimits (r .nodes) (r .colours) ends entries
+pub made-fits : (n w : ℕ) (ends : List ℕ) (entries : ℕ) (r : Ring) → callAnswer n w ends entries ≡ ring.Made r
+    → CallLimits (r .nodes) (r .colours) ends entries
 unfolding callAnswer
 made-fits n w ends entries r e =
     let made = made-allowed (callVerdict n w ends entries) n w r e in
@@ -144,7 +156,8 @@ plan-refused n w ends table ground e =
 
 -- none is there
 pub plan-made : (n w : ℕ) (ends before after : List ℕ) (r : Ring) → callAnswer n w ends (length before) ≡ ring.Made r
-    → (P : List Pair) → IsMaximum (requestsOf ends) P → ByLower P → (counts : Summary) → Chosen (r .nodes) (r .colours) (requestsOf ends) P before after counts
+    → (P : List Pair) → IsMaximum (requestsOf ends) P → ByLower P → (counts : Summary)
+    → Chosen (r .nodes) (r .colours) (requestsOf ends) P before after counts
     → PlanPromise n w ends before after (answer.Planned counts)
 unfolding callAnswer
 plan-made n w ends before after r e P maximum lower counts chosen =

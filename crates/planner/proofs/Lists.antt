@@ -5,7 +5,7 @@ use mathlib.Core.Bool.{Bool, true, false}
 use mathlib.Core.List.{List, [], _∷_}
 use native.Mathlib.Omega.{arith}
 use lib.ListN.{length, getD}
-use Rattle.ring.specs.Matchings.{Pair, pair, endsOf, NoTwice}
+use Rattle.ring.specs.Matchings.{Pair, pair, requestNumbers, NoTwice}
 
 -- one element more, if the test holds
 abbrev pub consIf : {A : Type 0} → Bool → A → List A → List A
@@ -64,7 +64,7 @@ collect-once p f (suc m) h = one (p 0) refl
 
 -- what holds of both numbers of each pair holds of each place of the list of all numbers
 pub ends-all : (Q : ℕ → Type 0) (P : List Pair) → ((k : ℕ) → k < length P → Q (pair P k .first) × Q (pair P k .second))
-    → (j : ℕ) → j < length (endsOf P) → Q (getD (endsOf P) j 0)
+    → (j : ℕ) → j < length (requestNumbers P) → Q (getD (requestNumbers P) j 0)
 ends-all Q [] h j l = absurd (omega arith)
 ends-all Q (p ∷ P) h zero l = h 0 (omega arith) .0
 ends-all Q (p ∷ P) h (suc zero) l = h 0 (omega arith) .1
@@ -77,22 +77,23 @@ NotIn x q = (x ≡ q .first → ⊥) × (x ≡ q .second → ⊥)
 -- one pair more, of two numbers that are different and in none of the pairs
 pub ends-cons : (p : Pair) (P : List Pair) → (p .first ≡ p .second → ⊥)
     → ((k : ℕ) → k < length P → NotIn (p .first) (pair P k)) → ((k : ℕ) → k < length P → NotIn (p .second) (pair P k))
-    → NoTwice (endsOf P) → NoTwice (endsOf (p ∷ P))
+    → NoTwice (requestNumbers P) → NoTwice (requestNumbers (p ∷ P))
 ends-cons p P differ first second once =
-    no-twice-cons (p .first) (p .second ∷ endsOf P) front
-    (no-twice-cons (p .second) (endsOf P) (ends-all (λ x. p .second ≡ x → ⊥) P second) once)
+    no-twice-cons (p .first) (p .second ∷ requestNumbers P) front
+    (no-twice-cons (p .second) (requestNumbers P) (ends-all (λ x. p .second ≡ x → ⊥) P second) once)
   where
-    front : (j : ℕ) → j < length (p .second ∷ endsOf P) → p .first ≡ getD (p .second ∷ endsOf P) j 0 → ⊥
+    front : (j : ℕ) → j < length (p .second ∷ requestNumbers P) → p .first ≡ getD (p .second ∷ requestNumbers P) j 0 → ⊥
     front zero h = differ
     front (suc j) h = ends-all (λ x. p .first ≡ x → ⊥) P first j (omega arith)
 
 -- pairs of different numbers, with none in common
 pub pairs-once : (p : ℕ → Bool) (f : ℕ → Pair) (m : ℕ) → ((i : ℕ) → i < m → p i ≡ true → f i .first ≡ f i .second → ⊥)
     → ((i j : ℕ) → i < j → j < m → p i ≡ true → p j ≡ true → NotIn (f i .first) (f j) × NotIn (f i .second) (f j))
-    → NoTwice (endsOf (collect p f m))
+    → NoTwice (requestNumbers (collect p f m))
 pairs-once p f zero h g = λ i j l k e. omega arith
 pairs-once p f (suc m) h g = one (p 0) refl
-    (pairs-once (λ i. p (suc i)) (λ i. f (suc i)) m (λ i l. h (suc i) (omega arith)) (λ i j l k. g (suc i) (suc j) (omega arith) (omega arith)))
+    (pairs-once (λ i. p (suc i)) (λ i. f (suc i)) m (λ i l. h (suc i) (omega arith))
+    (λ i j l k. g (suc i) (suc j) (omega arith) (omega arith)))
   where
     rest : List Pair
     rest = collect (λ i. p (suc i)) (λ i. f (suc i)) m
@@ -100,7 +101,8 @@ pairs-once p f (suc m) h g = one (p 0) refl
     all : (Q : Pair → Type 0) → ((i : ℕ) → suc i < suc m → p (suc i) ≡ true → Q (f (suc i))) → (k : ℕ) → k < length rest → Q (pair rest k)
     all Q q = collect-all (λ i. p (suc i)) (λ i. f (suc i)) (record { first = 0; second = 0 }) Q m (λ i l. q i (omega arith))
 
-    one : (b : Bool) → p 0 ≡ b → NoTwice (endsOf rest) → NoTwice (endsOf (consIf b (f 0) rest))
+    one : (b : Bool) → p 0 ≡ b → NoTwice (requestNumbers rest) → NoTwice (requestNumbers (consIf b (f 0) rest))
     one true e once = ends-cons (f 0) rest (h 0 (omega arith) e)
-        (all (NotIn (f 0 .first)) (λ i l t. g 0 (suc i) (omega arith) l e t .0)) (all (NotIn (f 0 .second)) (λ i l t. g 0 (suc i) (omega arith) l e t .1)) once
+        (all (NotIn (f 0 .first)) (λ i l t. g 0 (suc i) (omega arith) l e t .0))
+        (all (NotIn (f 0 .second)) (λ i l t. g 0 (suc i) (omega arith) l e t .1)) once
     one false e once = once

@@ -8,7 +8,7 @@ use lib.Dec.{ltb}
 use lib.ListN.{length, take}
 use borrow.Author.Tests.{ltb-true}
 use Rattle.ring.specs.declared.requests.Request.{Request}
-use Rattle.ring.specs.Matchings.{Pair, pair, endsOf, IsMatching}
+use Rattle.ring.specs.Matchings.{Pair, pair, requestNumbers, IsMatching}
 use Rattle.ring.proofs.Counting.{length-le}
 use Rattle.matching.specs.Maximum.{lowerPair, pairsFrom, pairsOf}
 use Rattle.planner.specs.PairPart.{ByLower}
@@ -23,9 +23,11 @@ pairs-lower i (j ∷ mates) k l = one (ltb i j) (ltb-true i j) (pairs-lower (i +
     rest : List Pair
     rest = pairsFrom (i + 1) mates
 
-    one : (b : Bool) → (b ≡ true → i < j) → ((k : ℕ) → k < length rest → (i + 1 ≤ pair rest k .first) × (pair rest k .first < pair rest k .second))
+    one : (b : Bool) → (b ≡ true → i < j)
+        → ((k : ℕ) → k < length rest → (i + 1 ≤ pair rest k .first) × (pair rest k .first < pair rest k .second))
         → (k : ℕ) → k < length (lowerPair b i j ++ rest)
-        → (i ≤ pair (lowerPair b i j ++ rest) k .first) × (pair (lowerPair b i j ++ rest) k .first < pair (lowerPair b i j ++ rest) k .second)
+        → (i ≤ pair (lowerPair b i j ++ rest) k .first)
+        × (pair (lowerPair b i j ++ rest) k .first < pair (lowerPair b i j ++ rest) k .second)
     one true h r zero l = (omega arith, h refl)
     one true h r (suc k) l = let t = r k (omega arith) in (omega arith, t .1)
     one false h r k l = let t = r k l in (omega arith, t .1)
@@ -40,7 +42,8 @@ pairs-rising i (x ∷ mates) j k h l = one (ltb i x) (pairs-rising (i + 1) mates
     rest = pairsFrom (i + 1) mates
 
     one : (b : Bool) → ((j k : ℕ) → j < k → k < length rest → pair rest j .first < pair rest k .first)
-        → (j k : ℕ) → j < k → k < length (lowerPair b i x ++ rest) → pair (lowerPair b i x ++ rest) j .first < pair (lowerPair b i x ++ rest) k .first
+        → (j k : ℕ) → j < k → k < length (lowerPair b i x ++ rest)
+        → pair (lowerPair b i x ++ rest) j .first < pair (lowerPair b i x ++ rest) k .first
     one true r zero zero h l = absurd (omega arith)
     one true r zero (suc k) h l = let t = pairs-lower (i + 1) mates k (omega arith) in omega arith
     one true r (suc j) zero h l = absurd (omega arith)
@@ -51,7 +54,7 @@ pub pairs-by-lower : (m : ℕ) (mates : List ℕ) → ByLower (pairsOf m mates)
 unfolding pairsOf
 pairs-by-lower m mates = record { lower = λ k l. pairs-lower 0 (take m mates) k l .1; rising = pairs-rising 0 (take m mates) }
 
-ends-length : (P : List Pair) → length (endsOf P) ≡ 2 * length P
+ends-length : (P : List Pair) → length (requestNumbers P) ≡ 2 * length P
 ends-length [] = refl
 ends-length (p ∷ P) = omega (arith, ends-length P)
 
@@ -60,5 +63,5 @@ pub matching-size : (R : List Request) (P : List Pair) → IsMatching R P → 2 
 matching-size R P matching = omega (
   arith,
   ends-length P,
-  length-le (endsOf P) (length R) (ends-all (λ x. x < length R) P (matching .numbers)) (matching .once),
+  length-le (requestNumbers P) (length R) (ends-all (λ x. x < length R) P (matching .numbers)) (matching .once),
 )

@@ -14,7 +14,7 @@ use Rattle.ring.specs.declared.fates.Fate.the-variants.{Blocked, Served}
 use Rattle.ring.specs.Requests.{request, ValidRequests}
 use Rattle.ring.specs.Ways.{uses}
 use Rattle.ring.specs.Plans.{fate, served, Feasible}
-use Rattle.ring.specs.Matchings.{Pair, pair, endsOf, NoTwice, IsMatching}
+use Rattle.ring.specs.Matchings.{Pair, pair, requestNumbers, NoTwice, IsMatching}
 use Rattle.ring.specs.Routing.{firstWay, secondWay}
 use Rattle.ring.proofs.Cases.{impossible}
 use Rattle.ring.proofs.WayLaws.{share-none, share-sym}
@@ -26,7 +26,7 @@ use Rattle.planner.proofs.Lists.{ends-all}
 
 -- A part of a matching is a matching.
 
-ends-take : (w : ℕ) (P : List Pair) → endsOf (take w P) ≡ take (2 * w) (endsOf P)
+ends-take : (w : ℕ) (P : List Pair) → requestNumbers (take w P) ≡ take (2 * w) (requestNumbers P)
 ends-take zero P = refl
 ends-take (suc w) [] = sym (take-nil (2 * suc w))
 ends-take (suc w) (p ∷ P) =
@@ -35,9 +35,11 @@ ends-take (suc w) (p ∷ P) =
 
 pub matching-take : (R : List Request) (w : ℕ) (P : List Pair) → IsMatching R P → IsMatching R (take w P)
 matching-take R w P matching = record {
-  numbers = λ k l. let h : k < w = omega (arith, length-take w P) in rw (getD-take w P k _ h) (matching .numbers k (omega (arith, length-take w P)));
-  compatibles = λ k l. let h : k < w = omega (arith, length-take w P) in rw (getD-take w P k _ h) (matching .compatibles k (omega (arith, length-take w P)));
-  once = rw ends-take (once-take (2 * w) (endsOf P) (matching .once));
+  numbers = λ k l. let h : k < w = omega (arith, length-take w P) in
+      rw (getD-take w P k _ h) (matching .numbers k (omega (arith, length-take w P)));
+  compatibles = λ k l. let h : k < w = omega (arith, length-take w P) in
+      rw (getD-take w P k _ h) (matching .compatibles k (omega (arith, length-take w P)));
+  once = rw ends-take (once-take (2 * w) (requestNumbers P) (matching .once));
 }
   where
     once-take : (k : ℕ) (l : List ℕ) → NoTwice l → NoTwice (take k l)
@@ -67,7 +69,8 @@ paired-cases : (n : ℕ) (R : List Request) (c : ℕ) (P : List Pair) (F : List 
     → fate (pairedFrom n R c P F) x ≡ Served u d → Holds n R c P x u d ⊎ (fate F x ≡ Served u d)
 paired-cases n R c [] F x u d e = inr e
 paired-cases n R c (p ∷ P) F x u d e =
-    ⊎-elim (λ t. inl (later t)) now (paired-cases n R (c + 1) P (set (set F (p .first) (firstFate R p c)) (p .second) (secondFate n R p c)) x u d e)
+    ⊎-elim (λ t. inl (later t)) now
+    (paired-cases n R (c + 1) P (set (set F (p .first) (firstFate R p c)) (p .second) (secondFate n R p c)) x u d e)
   where
     later : Holds n R (c + 1) P x u d → Holds n R c (p ∷ P) x u d
     later (first k l q s t) = first (suc k) (omega arith) (omega arith) s t
@@ -146,13 +149,17 @@ serve-one F i c u h e =
 
 -- pairs of requests that are blocked so far, none of them twice
 paired-serves : (n : ℕ) (R : List Request) (c : ℕ) (P : List Pair) (F : List Fate)
-    → ((j : ℕ) → j < length (endsOf P) → (getD (endsOf P) j 0 < length F) × (fate F (getD (endsOf P) j 0) ≡ Blocked))
-    → NoTwice (endsOf P) → served (pairedFrom n R c P F) ≡ served F + 2 * length P
+    → ((j : ℕ) → j < length (requestNumbers P)
+    → (getD (requestNumbers P) j 0 < length F) × (fate F (getD (requestNumbers P) j 0) ≡ Blocked))
+    → NoTwice (requestNumbers P) → served (pairedFrom n R c P F) ≡ served F + 2 * length P
 paired-serves n R c [] F free once = omega arith
 paired-serves n R c (p ∷ P) F free once =
-    let one = serve-one F (p .first) c (firstWay (request R (p .first)) (request R (p .second))) (free 0 (omega arith) .0) (free 0 (omega arith) .1) in
-    let other : fate F₁ (p .second) ≡ Blocked = getD-set-other F (p .first) (p .second) _ Blocked (λ q. once 0 1 (omega arith) (omega arith) (sym q)) ∙ free 1 (omega arith) .1 in
-    let two = serve-one F₁ (p .second) c (secondWay n (request R (p .first)) (request R (p .second))) (omega (arith, length-set F (p .first) (firstFate R p c), free 1 (omega arith) .0)) other in
+    let one = serve-one F (p .first) c (firstWay (request R (p .first)) (request R (p .second))) (free 0 (omega arith) .0)
+    (free 0 (omega arith) .1) in
+    let other : fate F₁ (p .second) ≡ Blocked =
+    getD-set-other F (p .first) (p .second) _ Blocked (λ q. once 0 1 (omega arith) (omega arith) (sym q)) ∙ free 1 (omega arith) .1 in
+    let two = serve-one F₁ (p .second) c (secondWay n (request R (p .first)) (request R (p .second)))
+    (omega (arith, length-set F (p .first) (firstFate R p c), free 1 (omega arith) .0)) other in
     omega (arith, paired-serves n R (c + 1) P F₂ still (λ i j h k. once (suc (suc i)) (suc (suc j)) (omega arith) (omega arith)))
   where
     F₁ : List Fate
@@ -161,9 +168,10 @@ paired-serves n R c (p ∷ P) F free once =
     F₂ : List Fate
     F₂ = set F₁ (p .second) (secondFate n R p c)
 
-    still : (j : ℕ) → j < length (endsOf P) → (getD (endsOf P) j 0 < length F₂) × (fate F₂ (getD (endsOf P) j 0) ≡ Blocked)
+    still : (j : ℕ) → j < length (requestNumbers P)
+        → (getD (requestNumbers P) j 0 < length F₂) × (fate F₂ (getD (requestNumbers P) j 0) ≡ Blocked)
     still j h =
-        let x = getD (endsOf P) j 0 in
+        let x = getD (requestNumbers P) j 0 in
         let before = free (suc (suc j)) (omega arith) in (
           omega (arith, length-set F (p .first) (firstFate R p c), length-set F₁ (p .second) (secondFate n R p c), before .0),
           getD-set-other F₁ (p .second) x _ Blocked (λ q. once 1 (suc (suc j)) (omega arith) (omega arith) (sym q))
@@ -180,7 +188,9 @@ pair-part-serves n w R P matching =
       served-blocked (length R),
       paired-serves n R 0 (take w P) (replicate (length R) Blocked)
           (ends-all (λ x. (x < length (replicate (length R) Blocked)) × (fate (replicate (length R) Blocked) x ≡ Blocked)) (take w P)
-          (λ k l. let inside = part .numbers k l in
-          ((omega (arith, length-replicate (length R) Blocked), blocked-at (length R) _), (omega (arith, length-replicate (length R) Blocked), blocked-at (length R) _))))
+          (λ k l. let inside = part .numbers k l in (
+            (omega (arith, length-replicate (length R) Blocked), blocked-at (length R) _),
+            (omega (arith, length-replicate (length R) Blocked), blocked-at (length R) _),
+          )))
           (part .once),
     )

@@ -22,16 +22,19 @@ use Rattle.planner.proofs.Bound.{ceiling, two-thirds}
 use Rattle.planner.proofs.PairLaws.{pair-part-feasible, pair-part-serves}
 
 -- the pair part serves more
-pub plan-pair : (n w : ℕ) (R : List Request) (P : List Pair) → served (chainPart n w R) < served (pairPart n w R P) → planOf n w R P ≡ pairPart n w R P
+pub plan-pair : (n w : ℕ) (R : List Request) (P : List Pair) → served (chainPart n w R) < served (pairPart n w R P)
+    → planOf n w R P ≡ pairPart n w R P
 unfolding planOf partUsed
 plan-pair n w R P h = rw (lt-ltb (served (chainPart n w R)) (served (pairPart n w R P)) h)
 
 -- it does not
-pub plan-chain : (n w : ℕ) (R : List Request) (P : List Pair) → served (pairPart n w R P) ≤ served (chainPart n w R) → planOf n w R P ≡ chainPart n w R
+pub plan-chain : (n w : ℕ) (R : List Request) (P : List Pair) → served (pairPart n w R P) ≤ served (chainPart n w R)
+    → planOf n w R P ≡ chainPart n w R
 unfolding planOf partUsed
 plan-chain n w R P h = rw (le-ltb (served (chainPart n w R)) (served (pairPart n w R P)) h)
 
-module _ (n w : ℕ) (R : List Request) (valid : ValidRequests n R) (chain : OptimalOffSeam n w R (chainPart n w R)) (P : List Pair) (maximum : IsMaximum R P) where
+module _ (n w : ℕ) (R : List Request) (valid : ValidRequests n R) (chain : OptimalOffSeam n w R (chainPart n w R)) (P : List Pair)
+    (maximum : IsMaximum R P) where
   plan-feasible : Feasible n w R (planOf n w R P)
   plan-feasible = elim (compare (served (chainPart n w R)) (served (pairPart n w R P))) [
     | less h e ↦ rw (plan-pair n w R P h) (pair-part-feasible n w R valid P (maximum .matching))

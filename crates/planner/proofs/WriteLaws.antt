@@ -4,10 +4,10 @@ use mathlib.Core.Path.{_≡_, refl, sym, ap, _∙_}
 use mathlib.Core.Bool.{Bool, true, false, cond}
 use mathlib.Core.List.{List, [], _∷_, _++_, map}
 use native.Mathlib.Omega.{arith}
-use native.Mathlib.Numerals.{add-one}
 use lib.Dec.{ltb}
-use lib.ListN.{length, getD, take, drop, set, replicate, length-append, length-take, length-drop, length-set, length-replicate, drop-of-length-le, List·getD-eq-default}
-use lib.Seq.{take-nil, drop-cons, set-at, append-snoc, getD-take}
+use lib.ListN.{length, getD, take, drop, set, replicate, length-append, length-take, length-drop, length-set, length-replicate}
+use lib.ListN.{drop-of-length-le, List·getD-eq-default}
+use lib.Seq.{take-nil, getD-take}
 use Rattle.ring.specs.declared.requests.Request.{Request}
 use Rattle.ring.specs.declared.ways.Way.{Way}
 use Rattle.ring.specs.declared.ways.Way.the-variants.{Plain}
@@ -19,22 +19,13 @@ use Rattle.ring.specs.Matchings.{Pair, pair, IsMatching}
 use Rattle.ring.specs.Routing.{seamIf, firstWay, secondWay}
 use borrow.Author.Tests.{lt-ltb, le-ltb}
 use Rattle.ring.proofs.Cases.{less, not-less, compare, impossible}
+use Rattle.ring.proofs.ListLaws.{drop-next}
 use Rattle.ring.proofs.WayLaws.{sharing-means}
 use Rattle.matching.specs.Maximum.{lowerPair, pairsFrom, pairsOf}
 use Rattle.planner.specs.PairPart.{firstFate, secondFate, pairedFrom, pairPart}
-use Rattle.planner.specs.Writing.{otherWay, withPair, takes, tableAfter, colourAfter, writtenFrom, MateFits, Writable, pairTable}
+use Rattle.planner.specs.Internal.Writing.{otherWay, withPair, takes, tableAfter, colourAfter, writtenFrom, MateFits, Writable}
+use Rattle.planner.specs.Internal.Writing.{pairTable}
 use Rattle.planner.proofs.PairLaws.{matching-take}
-
--- one entry more is 0
-pub clear-turn : (table : List ℕ) (i : ℕ) → i < length table
-    → set (replicate i 0 ++ drop i table) i 0 ≡ replicate (i + 1) 0 ++ drop (i + 1) table
-clear-turn table i h =
-    rw (drop-cons table i 0 h, set-at (replicate i 0) (getD table i 0) (drop (suc i) table) 0 i (length-replicate i 0), add-one)
-    (sym (append-snoc (replicate i 0) 0 (drop (suc i) table)) ∙ ap (λ (l : List ℕ). l ++ drop (suc i) table) (snoc i))
-  where
-    snoc : (k : ℕ) → replicate {A = ℕ} k 0 ++ (0 ∷ []) ≡ replicate {A = ℕ} (suc k) 0
-    snoc zero = refl
-    snoc (suc k) = ap (λ (l : List ℕ). 0 ∷ l) (snoc k)
 
 -- the two entries of a pair, as they are computed
 pub pair-written : (R : List Request) (i j c : ℕ) (table : List ℕ) (r s : Request) (first second : Way) (x y : ℕ)
@@ -43,12 +34,14 @@ pub pair-written : (R : List Request) (i j c : ℕ) (table : List ℕ) (r s : Re
 pair-written R i j c table r s first second x y e f g h k l = cc
 
 -- request i with its mate j: i is not the lower one; there is no colour left; or both take the colour
-pub not-lower : (w : ℕ) (R : List Request) (i j c : ℕ) (table : List ℕ) → j ≤ i → (c ≡ colourAfter w i j c) × (table ≡ tableAfter w R i j c table)
+pub not-lower : (w : ℕ) (R : List Request) (i j c : ℕ) (table : List ℕ) → j ≤ i
+    → (c ≡ colourAfter w i j c) × (table ≡ tableAfter w R i j c table)
 not-lower w R i j c table h =
     let e = le-ltb i j h in
     (cc, cc)
 
-pub no-colour : (w : ℕ) (R : List Request) (i j c : ℕ) (table : List ℕ) → i < j → w ≤ c → (c ≡ colourAfter w i j c) × (table ≡ tableAfter w R i j c table)
+pub no-colour : (w : ℕ) (R : List Request) (i j c : ℕ) (table : List ℕ) → i < j → w ≤ c
+    → (c ≡ colourAfter w i j c) × (table ≡ tableAfter w R i j c table)
 no-colour w R i j c table h k =
     let e = lt-ltb i j h in
     let f = le-ltb c w k in
@@ -61,9 +54,6 @@ both-take w R i j c table table′ h k g =
     let f = lt-ltb c w k in
     (cc, cc)
 
-drop-next : (l : List ℕ) (i : ℕ) → i < length l → drop i l ≡ getD l i 0 ∷ drop (i + 1) l
-drop-next l i h = rw (add-one, drop-cons l i 0)
-
 -- a turn of the walk, and its end
 pub written-turn : (w : ℕ) (R : List Request) (i c m : ℕ) (mates table : List ℕ) → i < m
     → writtenFrom w R i c (drop i (take m mates)) table
@@ -71,7 +61,7 @@ pub written-turn : (w : ℕ) (R : List Request) (i c m : ℕ) (mates table : Lis
 written-turn w R i c m mates table h = elim (compare i (length mates)) [
   | less k e ↦
       let inside : i < length (take m mates) = omega (arith, length-take m mates) in
-      rw (drop-next (take m mates) i inside, getD-take m mates i 0 h)
+      rw (drop-next (take m mates) i 0 inside, getD-take m mates i 0 h)
   | not-less k e ↦
       let outside : length (take m mates) ≤ i = omega (arith, length-take m mates) in
       let next : length (take m mates) ≤ i + 1 = omega arith in
@@ -79,7 +69,8 @@ written-turn w R i c m mates table h = elim (compare i (length mates)) [
       (not-lower w R i 0 c table (omega arith) .1)
 ]
 
-pub written-ended : (w : ℕ) (R : List Request) (i c m : ℕ) (mates table : List ℕ) → m ≤ i → writtenFrom w R i c (drop i (take m mates)) table ≡ table
+pub written-ended : (w : ℕ) (R : List Request) (i c m : ℕ) (mates table : List ℕ) → m ≤ i
+    → writtenFrom w R i c (drop i (take m mates)) table ≡ table
 written-ended w R i c m mates table h =
     let outside : length (take m mates) ≤ i = omega (arith, length-take m mates) in
     rw (drop-of-length-le (take m mates) outside)
@@ -137,7 +128,8 @@ module _ (n : ℕ) (R : List Request) (valid : ValidRequests n R) where
       let first = set-number F rest i (firstFate R p c) (omega arith) in
       let second = set-number F₁ rest j (secondFate n R p c) (omega (arith, length-set F i (firstFate R p c))) in
       rw (other-way i j (here .0) (here .1), first, second)
-      (table-numbers (c + 1) P (set F₁ j (secondFate n R p c)) rest (length-set F₁ j _ ∙ (length-set F i _ ∙ e)) (λ k l. inside (suc k) (omega arith)))
+      (table-numbers (c + 1) P (set F₁ j (secondFate n R p c)) rest (length-set F₁ j _ ∙ (length-set F i _ ∙ e))
+      (λ k l. inside (suc k) (omega arith)))
 
   -- from a table whose first m entries are 0, the walk over the mates writes the pair part
   pub written-pair-part : (w : ℕ) (mates rest : List ℕ) → IsMatching R (pairsOf (length R) mates)
@@ -149,7 +141,8 @@ module _ (n : ℕ) (R : List Request) (valid : ValidRequests n R) where
       let all : w - 0 ≡ w = omega arith in
       (rw all at (written-pairs w R 0 0 (take (length R) mates) (replicate (length R) 0 ++ rest)))
       ∙ (ap (λ (l : List ℕ). tableFrom R 0 (take w P) (l ++ rest)) (sym (blocked-numbers (length R)))
-      ∙ table-numbers 0 (take w P) (replicate (length R) Blocked) rest (length-replicate (length R) Blocked) (matching-take R w P matching .numbers))
+      ∙ table-numbers 0 (take w P) (replicate (length R) Blocked) rest (length-replicate (length R) Blocked)
+      (matching-take R w P matching .numbers))
 
 -- what holds of the second number of each pair holds of the mate of each request that is the lower one
 pairs-each : (Q : ℕ → Type 0) (i : ℕ) (mates : List ℕ) → ((k : ℕ) → k < length (pairsFrom i mates) → Q (pair (pairsFrom i mates) k .second))
@@ -158,13 +151,15 @@ pairs-each Q i [] h k l g = absurd (omega arith)
 pairs-each Q i (j ∷ mates) h zero l g = here (ltb i j) (lt-ltb i j (omega arith)) h
   where
     here : (b : Bool) → b ≡ true
-        → ((k : ℕ) → k < length (lowerPair b i j ++ pairsFrom (i + 1) mates) → Q (pair (lowerPair b i j ++ pairsFrom (i + 1) mates) k .second)) → Q j
+        → ((k : ℕ) → k < length (lowerPair b i j ++ pairsFrom (i + 1) mates)
+        → Q (pair (lowerPair b i j ++ pairsFrom (i + 1) mates) k .second)) → Q j
     here true e q = q 0 (omega arith)
     here false e q = impossible (sym e)
 pairs-each Q i (j ∷ mates) h (suc k) l g = pairs-each Q (i + 1) mates (behind (ltb i j) h) k (omega arith) (omega arith)
   where
     behind : (b : Bool)
-        → ((k : ℕ) → k < length (lowerPair b i j ++ pairsFrom (i + 1) mates) → Q (pair (lowerPair b i j ++ pairsFrom (i + 1) mates) k .second))
+        → ((k : ℕ) → k < length (lowerPair b i j ++ pairsFrom (i + 1) mates)
+        → Q (pair (lowerPair b i j ++ pairsFrom (i + 1) mates) k .second))
         → (k : ℕ) → k < length (pairsFrom (i + 1) mates) → Q (pair (pairsFrom (i + 1) mates) k .second)
     behind true q k s = q (suc k) (omega arith)
     behind false q k s = q k s
@@ -190,7 +185,8 @@ module _ (n w : ℕ) (ends mates start : List ℕ) (writable : Writable n w ends
   half : length ends / 2 ≡ length (requestsOf ends)
   half = omega (arith, writable .even)
 
-  pub mate-fits : (i j : ℕ) (table : List ℕ) → i < length ends / 2 → length table ≡ length start → j ≡ getD mates i 0 → MateFits ends i j w table
+  pub mate-fits : (i j : ℕ) (table : List ℕ) → i < length ends / 2 → length table ≡ length start → j ≡ getD mates i 0
+      → MateFits ends i j w table
   mate-fits i j table h e f =
       let even = writable .even in
       let room = writable .room in
@@ -205,7 +201,8 @@ module _ (n w : ℕ) (ends mates start : List ℕ) (writable : Writable n w ends
         colours = writable .colours;
       }
 
-  pub cleared-length : (cleared : List ℕ) → cleared ≡ replicate (length ends / 2) 0 ++ drop (length ends / 2) start → length cleared ≡ length start
+  pub cleared-length : (cleared : List ℕ) → cleared ≡ replicate (length ends / 2) 0 ++ drop (length ends / 2) start
+      → length cleared ≡ length start
   cleared-length cleared e = omega (
     arith,
     ap length e,
@@ -219,7 +216,8 @@ module _ (n w : ℕ) (ends mates start : List ℕ) (writable : Writable n w ends
   pub cleared-written : (cleared : List ℕ) → cleared ≡ replicate (length ends / 2) 0 ++ drop (length ends / 2) start
       → writtenFrom w (requestsOf ends) 0 0 (take (length ends / 2) mates) cleared ≡ pairTable n w (requestsOf ends) mates start
   cleared-written cleared e =
-      rw (e, half) (written-pair-part n (requestsOf ends) (writable .valid) w mates (drop (length (requestsOf ends)) start) (writable .matching))
+      rw (e, half) (written-pair-part n (requestsOf ends) (writable .valid) w mates (drop (length (requestsOf ends)) start)
+      (writable .matching))
 
 pub written-again : (w : ℕ) (R : List Request) (i c m : ℕ) (mates table : List ℕ) (j c′ : ℕ) (table′ whole : List ℕ)
     → i < m → j ≡ getD mates i 0 → c′ ≡ colourAfter w i j c → table′ ≡ tableAfter w R i j c table

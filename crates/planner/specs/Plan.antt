@@ -1,20 +1,23 @@
 -- The plan and its counts.
 use Prim.Native.Nat.{ℕ}
 use mathlib.Core.Bool.{Bool, true, false}
-use mathlib.Core.List.{List}
+use mathlib.Core.List.{List, [], _∷_}
 use lib.Dec.{ltb}
 use lib.ListN.{length}
 use Rattle.ring.specs.declared.requests.Request.{Request}
 use Rattle.ring.specs.declared.fates.Fate.{Fate}
 use Rattle.ring.specs.Plans.{served}
 use Rattle.ring.specs.Matchings.{Pair}
+use Rattle.ring.specs.Answers.{InNumbers, gives, refuses}
 use Rattle.chain.specs.ChainPart.{chainPart}
 use Rattle.planner.specs.declared.answers.Part.{Part}
 use Rattle.planner.specs.declared.answers.Part.the-variants as part
 use Rattle.planner.specs.declared.answers.Summary.{Summary}
+use Rattle.planner.specs.declared.answers.PlanAnswer.{PlanAnswer}
+use Rattle.planner.specs.declared.answers.PlanAnswer.the-variants as answer
 use Rattle.planner.specs.PairPart.{pairPart}
 
--- "The plan is the part that serves more; on a tie, the chain part."
+-- "the part that serves more; on a tie, the chain part"
 abbrev pub better : Bool → Part
 better true = part.Pair
 better false = part.Chain
@@ -30,6 +33,21 @@ planBy part.Chain n w R P = chainPart n w R
 unfoldable pub planOf : ℕ → ℕ → List Request → List Pair → List Fate
 planOf n w R P = planBy (partUsed n w R P) n w R P
 
--- "the requests served by the chain part, the match count, the requests served by the pair part, and the part used"
+-- "line 2's counts and part": what the chain part serves, the match count, what the pair part serves
 unfoldable pub summary : ℕ → ℕ → List Request → List Pair → Summary
-summary n w R P = record { chain = served (chainPart n w R); matched = length P; paired = served (pairPart n w R P); used = partUsed n w R P }
+summary n w R P = record {
+  chain = served (chainPart n w R);
+  matched = length P;
+  paired = served (pairPart n w R P);
+  used = partUsed n w R P;
+}
+
+-- 0 chain, 1 pair
+abbrev pub partNumber : Part → ℕ
+partNumber part.Chain = 0
+partNumber part.Pair = 1
+
+-- the answer of plan in numbers: "line 2's counts and part are given"
+abbrev pub planInNumbers : PlanAnswer → InNumbers
+planInNumbers (answer.Planned s) = gives (s .chain ∷ s .matched ∷ s .paired ∷ partNumber (s .used) ∷ [])
+planInNumbers (answer.Refused r) = refuses r

@@ -42,7 +42,7 @@ pub record Demand3 (n w : ℕ) (R : List Request) (table : List ℕ) (counts : S
   pub paired : counts .paired ≡ 2 * min (counts .matched) w
 
 -- a plan is made. Which maximum matching is found is open: `pairs` is one, and all else follows from it
-pub record Planned (n w : ℕ) (R : List Request) (before after : List ℕ) (result : PlanAnswer) : Type 0 where
+pub record PlanMade (n w : ℕ) (R : List Request) (before after : List ℕ) (result : PlanAnswer) : Type 0 where
   pub pairs : List Pair
   pub maximum : IsMaximum R pairs
   pub byLower : ByLower pairs
@@ -56,4 +56,4 @@ pub record Planned (n w : ℕ) (R : List Request) (before after : List ℕ) (res
 pub record PlanPromise (n w : ℕ) (ends before after : List ℕ) (result : PlanAnswer) : Type 0 where
   pub refused : (ground : Refusal) → callVerdict n w ends (length before) ≡ verdict.Refused ground
       → (result ≡ answer.Refused ground) × (after ≡ before)
-  pub planned : callVerdict n w ends (length before) ≡ verdict.Allowed → Planned n w (requestsOf ends) before after result
+  pub planned : callVerdict n w ends (length before) ≡ verdict.Allowed → PlanMade n w (requestsOf ends) before after result

@@ -4,25 +4,21 @@ use ring::Request;
 use ring::Ring;
 use ring::Way;
 use ring::fates::fate_number;
+use ring::flags::either;
+use ring::numbers::wide;
 use ring::requests::request_at;
+use ring::tables::clear;
 use ring::ways::lies_inside;
 use ring::ways::ways_share;
 ghost use mathlib.Core.Path.{_≡_};
 ghost use mathlib.Core.Bool.{_||_};
-ghost use mathlib.Core.List.{_++_};
-ghost use Prim.Native.Nat.{_+_, _≤_, _<_};
-ghost use lib.ListN.{length, drop, replicate};
+ghost use Prim.Native.Nat.{_+_, _<_};
 ghost use Rattle.ring.specs.Requests.{requestsOf};
 ghost use Rattle.ring.specs.Fates.{fateNumber};
 ghost use Rattle.ring.specs.Chords.{inside};
 ghost use Rattle.ring.specs.Routing.{seamIf, firstWay};
-ghost use Rattle.planner.specs.Writing.{otherWay, PairFits, withPair, MateFits, colourAfter, tableAfter, Writable, pairTable};
-
-fn wide(x: u16) -> usize
-    ensures { λ r. ⌜ r ≡ x ⌝ }
-{
-    x as usize
-}
+ghost use Rattle.planner.specs.Internal.Writing.{otherWay, PairFits, withPair, MateFits, colourAfter, tableAfter, Writable};
+ghost use Rattle.planner.specs.Internal.Writing.{pairTable};
 
 // The seam way if the test holds, else the plain way.
 fn seam_if(test: bool) -> Way
@@ -35,7 +31,7 @@ fn seam_if(test: bool) -> Way
 fn end_inside(r: Request, s: Request) -> bool
     ensures { λ t. ⌜ t ≡ (inside r (s .a) || inside r (s .b)) ⌝ }
 {
-    lies_inside(r, s.a) || lies_inside(r, s.b)
+    either(lies_inside(r, s.a), lies_inside(r, s.b))
 }
 
 // The first of a pair goes plain if no end of the other lies strictly between its ends, else by the seam.
@@ -50,18 +46,6 @@ fn other_way(first: Way, r: Request, s: Request) -> Way
     ensures { λ way. ⌜ way ≡ otherWay first r s ⌝ }
 {
     seam_if(ways_share(first, r, Way::Plain, s))
-}
-
-// The first m entries become 0: everybody is blocked.
-fn clear(table: &mut [u16], m: usize)
-    requires { ⌜ m ≤ length (now table) ⌝ }
-    ensures { λ _. ⌜ now (table .exit) ≡ replicate m 0 ++ drop m (now (table .entry)) ⌝ }
-{
-    let mut entry: usize = 0;
-    while entry < m {
-        table[entry] = 0;
-        entry += 1;
-    }
 }
 
 // The number of a fate that is served.
@@ -88,7 +72,8 @@ fn put_pair(ends: &[u16], i: usize, j: usize, colour: u16, table: &mut [u16])
 // Request i with its mate j: a pair, if i is the lower one and there is a colour left. The next colour is given back.
 fn take_pair(ends: &[u16], i: usize, j: usize, colour: u16, w: u16, table: &mut [u16]) -> u16
     requires { ⌜ MateFits (now ends) i j w (now table) ⌝ }
-    ensures { λ r. ⌜ (r ≡ colourAfter w i j colour) × (now (table .exit) ≡ tableAfter w (requestsOf (now (ends .entry))) i j colour (now (table .entry))) ⌝ }
+    ensures { λ r. ⌜ (r ≡ colourAfter w i j colour)
+        × (now (table .exit) ≡ tableAfter w (requestsOf (now (ends .entry))) i j colour (now (table .entry))) ⌝ }
 {
     if j <= i {
         return colour;
@@ -103,15 +88,17 @@ fn take_pair(ends: &[u16], i: usize, j: usize, colour: u16, w: u16, table: &mut 
 // The pair part of the matching that the mates are: its fate numbers in the first m entries.
 pub fn write_pairs(ring: Ring, ends: &[u16], mates: &[u16; 512], table: &mut [u16])
     requires { ⌜ Writable (ring .nodes) (ring .colours) (now ends) (now mates) (now table) ⌝ }
-    ensures { λ _. ⌜ now (table .exit) ≡ pairTable (ring .nodes) (ring .colours) (requestsOf (now (ends .entry))) (now (mates .entry)) (now (table .entry)) ⌝ }
+    ensures { λ _. ⌜ now (table .exit)
+        ≡ pairTable (ring .nodes) (ring .colours) (requestsOf (now (ends .entry))) (now (mates .entry)) (now (table .entry)) ⌝ }
 {
     let m = ends.len() / 2;
     let w = ring.colours;
     clear(table, m);
     let mut colour: u16 = 0;
-    let mut i: usize = 0;
-    while i < m {
+    let mut left = m;
+    while 0 < left {
+        let i = m - left;
         colour = take_pair(ends, i, wide(mates[i]), colour, w, table);
-        i += 1;
+        left -= 1;
     }
 }

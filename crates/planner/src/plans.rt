@@ -6,14 +6,14 @@ use super::pairs::write_pairs;
 use chain::colour;
 use matching::maximum;
 use ring::Ring;
+use ring::numbers::smaller;
 use ring::requests::call_answer;
 use ring::rings::RingAnswer;
-use ring::ways::smaller;
 ghost use lib.ListN.{length};
 ghost use Rattle.ring.specs.Requests.{requestsOf};
 ghost use Rattle.matching.specs.Maximum.{pairsOf};
 ghost use Rattle.planner.specs.Promise.{PlanPromise};
-ghost use Rattle.planner.specs.Choosing.{Choosable, Chosen};
+ghost use Rattle.planner.specs.Internal.Choosing.{Choosable, Chosen};
 
 // The pair part is written over the chain part if it serves more. The counts and the part used are given back.
 fn choose(
@@ -25,7 +25,8 @@ fn choose(
     table: &mut [u16],
 ) -> Summary
     requires { ⌜ Choosable (ring .nodes) (ring .colours) (now ends) (now mates) (now table) chain size ⌝ }
-    ensures { λ r. ⌜ Chosen (ring .nodes) (ring .colours) (requestsOf (now (ends .entry))) (pairsOf (length (requestsOf (now (ends .entry)))) (now (mates .entry))) (now (table .entry)) (now (table .exit)) r ⌝ }
+    ensures { λ r. ⌜ Chosen (ring .nodes) (ring .colours) (requestsOf (now (ends .entry)))
+        (pairsOf (length (requestsOf (now (ends .entry)))) (now (mates .entry))) (now (table .entry)) (now (table .exit)) r ⌝ }
 {
     let matched = size as u16;
     let paired = 2 * smaller(matched, ring.colours);

@@ -1,7 +1,8 @@
--- Case splits that keep their equations. Facts are equations of Bools and numbers, so that `cc` proves the end of each case from the few facts that it uses.
+-- Case splits that keep their equations. Facts are equations of Bools and numbers, so that `cc` proves the end of each case from the few
+-- facts that it uses.
 use Prim.Native.Nat.{ℕ, _<_, _≤_}
 use mathlib.Core.Path.{_≡_, refl, sym}
-use mathlib.Core.Bool.{Bool, true, false, true≢false}
+use mathlib.Core.Bool.{Bool, true, false, true≢false, _&&_}
 use lib.Dec.{eqb, ltb}
 use borrow.Author.Tests.{eqb-true, eqb-false, eq-eqb, ne-eqb, ltb-true, ltb-false}
 
@@ -49,7 +50,8 @@ compare a b = go (ltb a b) refl
     go true e = less (ltb-true a b e) e
     go false e = not-less (ltb-false a b e) e
 
--- what makes two numbers different: that they are not equal, that the test says so, that another test tells them apart, that they are the images
+-- what makes two numbers different: that they are not equal, that the test says so, that another test tells them apart, that they are the
+-- images
 -- of different numbers under an involution
 pub apart : (a b : ℕ) → (a ≡ b → ⊥) → Apart a b
 apart a b h = record { left = ne-eqb a b h; right = ne-eqb b a (λ p. h (sym p)) }
@@ -73,3 +75,8 @@ pub data Three (A B C : Type 0) : Type 0 where
 -- a case that does not arise
 pub impossible : {A : Type 0} → true ≡ false → A
 impossible e = absurd (true≢false e)
+
+-- both of two tests hold
+pub and-true : (p q : Bool) → (p && q) ≡ true → (p ≡ true) × (q ≡ true)
+and-true true q e = (refl, e)
+and-true false q e = impossible (sym e)

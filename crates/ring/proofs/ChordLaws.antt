@@ -2,7 +2,7 @@
 use Prim.Native.Nat.{ℕ, _≤_, _<_}
 use mathlib.Core.Path.{_≡_, refl, ap}
 use mathlib.Core.Logic.{_⊎_, inl, inr, ⊎-elim}
-use mathlib.Core.Bool.{Bool, true, false, not, _||_}
+use mathlib.Core.Bool.{Bool, true, false, not, xor, _||_}
 use native.Mathlib.Omega.{arith}
 use lib.Dec.{eqb, ltb}
 use borrow.Author.Tests.{eq-eqb, ne-eqb, eqb-false, ltb-true, ltb-false, lt-ltb, le-ltb}
@@ -76,7 +76,7 @@ differ-ends r s e =
 
 -- "Sharing an end, or being the same pair, is no crossing."
 pub share-end-compatible : (r s : Request) → shareEnd r s ≡ true → compatible r s ≡ true
-unfolding compatible crosses
+unfolding compatible crosses xor
 share-end-compatible r s e = cc
 
 pub same-pair-compatible : (r s : Request) → r .a ≡ s .a → r .b ≡ s .b → compatible r s ≡ true
@@ -94,7 +94,7 @@ pub record Alternate (r s : Request) : Type 0 where
 
 -- chords cross exactly if their ends alternate, the one or the other first
 pub crosses-alternate : (r s : Request) → r .a ≤ r .b → s .a ≤ s .b → crosses r s ≡ true → Alternate r s ⊎ Alternate s r
-unfolding crosses
+unfolding crosses xor
 crosses-alternate r s h k e = elim (is (shareEnd r s)) [
   | yes f ↦ impossible (cc)
   | no f ↦
@@ -120,7 +120,7 @@ crosses-alternate r s h k e = elim (is (shareEnd r s)) [
 ]
 
 pub alternate-crosses : (r s : Request) → Alternate r s → crosses r s ≡ true
-unfolding crosses
+unfolding crosses xor
 alternate-crosses r s t = cc (
   ends-differ r s (omega arith),
   inside-if r (s .a) (t .starts-behind) (t .starts-before),
@@ -128,7 +128,7 @@ alternate-crosses r s t = cc (
 )
 
 pub alternate-crossed : (r s : Request) → Alternate r s → crosses s r ≡ true
-unfolding crosses
+unfolding crosses xor
 alternate-crossed r s t = cc (
   ends-differ s r (omega arith),
   outside-before s (r .a) (omega arith),

@@ -9,7 +9,7 @@ use Rattle.ring.specs.declared.ways.Way.{Way}
 use Rattle.ring.specs.declared.ways.Way.the-variants.{Plain, Seam}
 use Rattle.ring.specs.declared.fates.Fate.{Fate}
 use Rattle.ring.specs.declared.fates.Fate.the-variants.{Blocked, Served}
-use Rattle.ring.specs.Fates.{fateNumber, fateOf}
+use Rattle.ring.specs.Fates.{wayNumber, fateNumber, fateOf}
 use Rattle.ring.specs.Plans.{fate, fatesOf}
 use Rattle.ring.proofs.Cases.{same, different, test}
 
@@ -38,6 +38,12 @@ number-of-fate k = elim (test k 0) [
         cc (d .left, odd .left)
   ]
 ]
+
+-- the number of a fate that is served
+pub served-number : (u : Way) (c : ℕ) → fateNumber (Served u c) ≡ 2 * c + 1 + wayNumber u
+unfolding fateNumber
+served-number Plain c = omega arith
+served-number Seam c = omega arith
 
 -- 0 is the number of Blocked, and of no other fate
 pub number-zero : (f : Fate) → fateNumber f ≡ 0 → f ≡ Blocked

@@ -1,6 +1,8 @@
 -- Case splits and counts, and the laws of the definitions in specs/ that proofs cite.
 pub mod Cases
 pub mod Counting
+pub mod ListLaws
+pub mod BufferLaws
 pub mod RequestLaws
 pub mod WayLaws
 pub mod FateLaws

@@ -31,6 +31,12 @@ pub served-no : (f : Fate) → served? f ≡ false → f ≡ Blocked
 served-no Blocked e = refl
 served-no (Served u c) e = impossible e
 
+-- only a request of the list is served
+pub served-in : (F : List Fate) (i c : ℕ) (u : Way) → fate F i ≡ Served u c → i < length F
+served-in [] i c u e = impossible (cc)
+served-in (f ∷ F) zero c u e = omega arith
+served-in (f ∷ F) (suc i) c u e = omega (arith, served-in F i c u e)
+
 -- the first fate, and the others
 pub served-cons : (f : Fate) (F : List Fate) → served (f ∷ F) ≡ bit (served? f) + served F
 unfolding served
@@ -59,7 +65,8 @@ served-blocked zero = refl
 served-blocked (suc m) = served-blocked m
 
 -- one fate changed
-pub served-set : (F : List Fate) (i : ℕ) (f : Fate) → i < length F → served (set F i f) + bit (served? (fate F i)) ≡ served F + bit (served? f)
+pub served-set : (F : List Fate) (i : ℕ) (f : Fate) → i < length F
+    → served (set F i f) + bit (served? (fate F i)) ≡ served F + bit (served? f)
 served-set [] i f h = omega arith
 served-set (g ∷ F) zero f h = omega (arith, served-cons g F, served-cons f F)
 served-set (g ∷ F) (suc i) f h = omega (arith, served-cons g F, served-cons g (set F i f), served-set F i f (omega arith))
@@ -80,10 +87,12 @@ served-count (f ∷ F) = omega (arith, served-cons f F, served-count F, sum-firs
 pub served-test : (F : List Fate) (p : ℕ → Bool) → ((i : ℕ) → i < length F → served? (fate F i) ≡ p i) → served F ≡ count p (length F)
 served-test F p h = served-count F ∙ sum-ext (λ i. bit (served? (fate F i))) (λ i. bit (p i)) (length F) (λ i l. ap bit (h i l))
 
-pub served-same : (F G : List Fate) → length F ≡ length G → ((i : ℕ) → i < length F → served? (fate F i) ≡ served? (fate G i)) → served F ≡ served G
+pub served-same : (F G : List Fate) → length F ≡ length G → ((i : ℕ) → i < length F → served? (fate F i) ≡ served? (fate G i))
+    → served F ≡ served G
 served-same F G e h = served-test F (λ i. served? (fate G i)) h ∙ (ap (count (λ i. served? (fate G i))) e ∙ sym (served-count G))
 
-pub served-more : (F G : List Fate) → length F ≡ length G → ((i : ℕ) → i < length F → served? (fate F i) ≡ true → served? (fate G i) ≡ true) → served F ≤ served G
+pub served-more : (F G : List Fate) → length F ≡ length G → ((i : ℕ) → i < length F → served? (fate F i) ≡ true → served? (fate G i) ≡ true)
+    → served F ≤ served G
 served-more F G e h = omega (
   arith,
   served-count F,

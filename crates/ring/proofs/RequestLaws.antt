@@ -23,7 +23,8 @@ requests-length (x ∷ []) = refl
 requests-length (x ∷ y ∷ ends) = omega (arith, requests-length ends)
 
 -- request i has the ends at 2 i and 2 i + 1
-pub request-at : (ends : List ℕ) (i : ℕ) → 2 * i + 1 < length ends → request (requestsOf ends) i ≡ requestOf (getD ends (2 * i) 0) (getD ends (2 * i + 1) 0)
+pub request-at : (ends : List ℕ) (i : ℕ) → 2 * i + 1 < length ends
+    → request (requestsOf ends) i ≡ requestOf (getD ends (2 * i) 0) (getD ends (2 * i + 1) 0)
 request-at [] i h = absurd (omega arith)
 request-at (x ∷ []) i h = absurd (omega arith)
 request-at (x ∷ y ∷ ends) zero h = refl

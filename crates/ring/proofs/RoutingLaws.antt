@@ -9,9 +9,10 @@ use borrow.Author.Tests.{leb-true, le-leb, ltb-false}
 use Rattle.ring.specs.declared.requests.Request.{Request}
 use Rattle.ring.specs.declared.ways.Way.{Way}
 use Rattle.ring.specs.declared.ways.Way.the-variants.{Plain, Seam}
-use Rattle.ring.specs.Ways.{uses, shareLink, sharing}
+use Rattle.ring.specs.Ways.{uses, shareLink}
+use Rattle.ring.specs.Internal.Sharing.{sharing}
 use Rattle.ring.specs.Chords.{inside, compatible}
-use Rattle.ring.specs.Routing.{firstWay, secondWay}
+use Rattle.ring.specs.Routing.{firstWay, secondWay, RoutingPromise}
 use Rattle.ring.proofs.Cases.{yes, no, is, impossible}
 use Rattle.ring.proofs.WayLaws.{plain-uses, plain-used, seam-other, seam-uses-last, share-found, share-none, sharing-means}
 use Rattle.ring.proofs.ChordLaws.{inside-lies, outside-lies, compatible-if, second-end-within, first-end-within}
@@ -30,7 +31,8 @@ module _ (n : ℕ) (r s : Request) (order-r : r .a < r .b) (node-r : r .b < n) (
   -- the plain way of the one is disjoint from the seam way of the other, around it
   plain-around : s .a ≤ r .a → r .b ≤ s .b → shareLink n Plain r Seam s ≡ false
   unfolding sharing
-  plain-around h k = sym (sharing-means n Plain r Seam s order-r node-r order-s node-s) ∙ cc (le-leb (s .a) (r .a) h, le-leb (r .b) (s .b) k)
+  plain-around h k = sym (sharing-means n Plain r Seam s order-r node-r order-s node-s)
+      ∙ cc (le-leb (s .a) (r .a) h, le-leb (r .b) (s .b) k)
 
   seam-around : r .a ≤ s .a → s .b ≤ r .b → shareLink n Seam r Plain s ≡ false
   unfolding sharing
@@ -107,3 +109,7 @@ module _ (n : ℕ) (r s : Request) (order-r : r .a < r .b) (node-r : r .b < n) (
     | yes e ↦ e
     | no e ↦ absurd (h (routing-unique v e))
   ]
+
+-- "its one way that is disjoint from that"
+pub one-disjoint-way : RoutingPromise
+one-disjoint-way n r s o h p k c = record { disjoint = routing-disjoint n r s o h p k c; only = routing-unique n r s o h p k }

@@ -8,7 +8,8 @@ use borrow.Author.Tests.{leb-true, ltb-true, le-leb, lt-leb, lt-ltb}
 use Rattle.ring.specs.declared.requests.Request.{Request}
 use Rattle.ring.specs.declared.ways.Way.{Way}
 use Rattle.ring.specs.declared.ways.Way.the-variants.{Plain, Seam}
-use Rattle.ring.specs.Ways.{uses, someLink, shareLink, sharing, SharingMeans}
+use Rattle.ring.specs.Ways.{uses, someLink, shareLink}
+use Rattle.ring.specs.Internal.Sharing.{sharing, SharingMeans}
 use Rattle.ring.proofs.Cases.{yes, no, is, less, not-less, compare, impossible}
 
 -- two tests are one if each makes the other true
@@ -162,7 +163,8 @@ unfolding sharing
 plain-seam n r s o h = elim (compare (r .a) (s .a)) [
   | less l e ↦ cc (
     lt-leb (s .a) (r .a) l,
-    found-share n Plain r Seam s (r .a) (omega arith) (plain-uses r (r .a) (omega arith) o) (cc (seam-other s (r .a), plain-avoids-before s (r .a) l)),
+    found-share n Plain r Seam s (r .a) (omega arith) (plain-uses r (r .a) (omega arith) o)
+        (cc (seam-other s (r .a), plain-avoids-before s (r .a) l)),
   )
   | not-less l e ↦ elim (compare (s .b) (r .b)) [
     | less k f ↦

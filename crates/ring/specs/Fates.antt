@@ -12,7 +12,7 @@ abbrev pub wayNumber : Way → ℕ
 wayNumber Plain = 0
 wayNumber Seam = 1
 
--- "As a 16-bit number: 0 blocked, 1 + 2c plain in colour c, 2 + 2c seam in colour c."
+-- "As a 16-bit number: 0 blocked, 1+2c plain in colour c, 2+2c seam"
 unfoldable pub fateNumber : Fate → ℕ
 fateNumber Blocked = 0
 fateNumber (Served Plain c) = 2 * c + 1

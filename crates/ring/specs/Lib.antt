@@ -1,4 +1,4 @@
--- The sentences of document 01 on rings, requests, ways, fates, plans, matchings and refusals, in its order.
+-- The rules on rings, requests, ways, fates, plans, chords, matchings, pairs and refusals, in their order.
 pub mod Requests
 pub mod Ways
 pub mod Fates
@@ -7,4 +7,7 @@ pub mod Chords
 pub mod Matchings
 pub mod Routing
 pub mod Refusals
+pub mod Answers
 pub mod Admission
+pub mod Buffers
+pub mod Internal

@@ -23,11 +23,12 @@ served [] = 0
 served (Blocked ∷ F) = served F
 served (Served way colour ∷ F) = suc (served F)
 
--- "A plan for a list gives each request a fate, in colours below w. It is feasible if no two requests served in one colour share a link."
+-- "feasible if no two requests served in one colour share a link", with fates in colours below w
 pub record Feasible (n w : ℕ) (R : List Request) (F : List Fate) : Type 0 where
   pub each : length F ≡ length R
   pub colours : (i c : ℕ) (u : Way) → fate F i ≡ Served u c → c < w
-  pub apart : (i j c : ℕ) (u v : Way) → i ≢ j → fate F i ≡ Served u c → fate F j ≡ Served v c → (link : ℕ) → link < n → uses u (request R i) link ≡ true → uses v (request R j) link ≡ false
+  pub apart : (i j c : ℕ) (u v : Way) → i ≢ j → fate F i ≡ Served u c → fate F j ≡ Served v c → (link : ℕ) → link < n
+      → uses u (request R i) link ≡ true → uses v (request R j) link ≡ false
 
 -- "It keeps off a link if no served request's way uses that link."
 abbrev pub KeepsOff : ℕ → List Request → List Fate → Type 0

@@ -1,11 +1,18 @@
--- The number of each refusal in document 01, and the values that it carries.
+-- Refusals: the number of each, the values that it carries, and the order in which they are tested.
 use Prim.Native.Nat.{ℕ}
+use mathlib.Core.Bool.{Bool, true, false}
 use Rattle.ring.specs.declared.refusals.Refusal.{Refusal}
-use Rattle.ring.specs.declared.refusals.Refusal.the-variants.{NodeCount, ColourCount, RequestCount, RequestEnd, RequestEndsEqual, TableShort, FateNumber, Conflict, CircuitEnd, CircuitEndsEqual, WayNumber, ColourNumber, ColourHeld, BookFull, SerialsUsedUp, SerialNeverGiven, SerialRemoved, LinkNumber, BufferShort, StoredLength, BlockCheck, StoredForm, TextForm}
+use Rattle.ring.specs.declared.refusals.Refusal.the-variants.{NodeCount, ColourCount, RequestCount, RequestEnd, RequestEndsEqual}
+use Rattle.ring.specs.declared.refusals.Refusal.the-variants.{TableShort, FateNumber, Conflict, CircuitEnd, CircuitEndsEqual}
+use Rattle.ring.specs.declared.refusals.Refusal.the-variants.{WayNumber, ColourNumber, ColourHeld, BookFull, SerialsUsedUp}
+use Rattle.ring.specs.declared.refusals.Refusal.the-variants.{SerialNeverGiven, SerialRemoved, LinkNumber, BufferShort, StoredLength}
+use Rattle.ring.specs.declared.refusals.Refusal.the-variants.{BlockCheck, StoredForm, TextForm}
+use Rattle.ring.specs.declared.refusals.Verdict.{Verdict}
+use Rattle.ring.specs.declared.refusals.Verdict.the-variants.{Allowed, Refused}
 use Rattle.ring.specs.declared.refusals.Carried.{Carried}
 use Rattle.ring.specs.declared.refusals.Carried.the-variants.{None, One, Two}
 
--- the paper's number of each ground; 4 and 5 stand for a request of a list, and for a grant
+-- the number of each ground; 4 and 5 stand for a request of a list, and for a grant
 abbrev pub numberOf : Refusal → ℕ
 numberOf NodeCount = 1
 numberOf ColourCount = 2
@@ -56,3 +63,13 @@ carriedBy StoredLength = None
 carriedBy BlockCheck = None
 carriedBy StoredForm = None
 carriedBy TextForm = None
+
+-- a ground, if its test holds
+abbrev pub refuseIf : Bool → Refusal → Verdict
+refuseIf true r = Refused r
+refuseIf false r = Allowed
+
+-- the first ground of two, "tested in the order written"
+abbrev pub orElse : Verdict → Verdict → Verdict
+orElse (Refused r) later = Refused r
+orElse Allowed later = later

@@ -4,7 +4,7 @@ use mathlib.Core.List.{List, [], _∷_}
 use lib.ListN.{length, getD}
 use Rattle.ring.specs.declared.requests.Request.{Request}
 
--- "Its order of ends has no meaning; below, a is the smaller and b the larger."
+-- "order of ends has no meaning; a is the smaller and b the larger"
 abbrev pub requestOf : ℕ → ℕ → Request
 requestOf x y = record { a = min x y; b = max x y }
 

@@ -1,6 +1,6 @@
 // Every ground on which an operation turns a caller down, with the values that it carries.
 ghost use mathlib.Core.Path.{_≡_};
-ghost use Rattle.ring.specs.Refusals.{numberOf, carriedBy};
+ghost use Rattle.ring.specs.Refusals.{numberOf, carriedBy, refuseIf, orElse};
 
 pub enum Refusal {
     NodeCount,
@@ -39,6 +39,26 @@ pub enum Carried {
     None,
     One(u16),
     Two(u16, u16),
+}
+
+// A ground, if its test holds.
+pub fn refuse_if(test: bool, ground: Refusal) -> Verdict
+    ensures { λ r. ⌜ r ≡ refuseIf test ground ⌝ }
+{
+    if test {
+        return Verdict::Refused(ground);
+    }
+    Verdict::Allowed
+}
+
+// The first ground of two, in their order.
+pub fn or_else(first: Verdict, later: Verdict) -> Verdict
+    ensures { λ r. ⌜ r ≡ orElse first later ⌝ }
+{
+    match first {
+        Verdict::Refused(ground) => Verdict::Refused(ground),
+        Verdict::Allowed => later,
+    }
 }
 
 // The refusal's number in the rules.

@@ -1,11 +1,14 @@
-// The geometry of ways round the ring and of chords across it.
+// The geometry of ways round the ring.
+use super::numbers::larger;
+use super::numbers::smaller;
 use super::requests::Request;
 ghost use mathlib.Core.Path.{_≡_};
-ghost use mathlib.Core.Bool.{_&&_, _||_};
+ghost use mathlib.Core.Bool.{_&&_};
 ghost use Prim.Native.Nat.{min, max};
-ghost use lib.Dec.{eqb, leb, ltb};
-ghost use Rattle.ring.specs.Ways.{within, uses, sharing};
-ghost use Rattle.ring.specs.Chords.{inside, shareEnd, crosses, compatible};
+ghost use lib.Dec.{leb, ltb};
+ghost use Rattle.ring.specs.Ways.{within, uses};
+ghost use Rattle.ring.specs.Internal.Sharing.{sharing};
+ghost use Rattle.ring.specs.Chords.{inside};
 
 // The two ways of a request {a, b}: links a to b - 1, or all the others.
 pub enum Way {
@@ -34,20 +37,6 @@ fn contained(r: Request, s: Request) -> bool
     ensures { λ t. ⌜ t ≡ (leb (s .a) (r .a) && leb (r .b) (s .b)) ⌝ }
 {
     s.a <= r.a && r.b <= s.b
-}
-
-// The smaller of two numbers.
-pub fn smaller(x: u16, y: u16) -> u16
-    ensures { λ r. ⌜ r ≡ min x y ⌝ }
-{
-    if x <= y { x } else { y }
-}
-
-// The larger of two numbers.
-pub fn larger(x: u16, y: u16) -> u16
-    ensures { λ r. ⌜ r ≡ max x y ⌝ }
-{
-    if x <= y { y } else { x }
 }
 
 // Whether the two intervals overlap.
@@ -92,34 +81,4 @@ pub fn lies_inside(r: Request, x: u16) -> bool
     ensures { λ t. ⌜ t ≡ inside r x ⌝ }
 {
     r.a < x && x < r.b
-}
-
-// Whether a node is an end of a request.
-fn is_end(x: u16, s: Request) -> bool
-    ensures { λ t. ⌜ t ≡ (eqb x (s .a) || eqb x (s .b)) ⌝ }
-{
-    x == s.a || x == s.b
-}
-
-fn share_end(r: Request, s: Request) -> bool
-    ensures { λ t. ⌜ t ≡ shareEnd r s ⌝ }
-{
-    is_end(r.a, s) || is_end(r.b, s)
-}
-
-// Whether the chords of two requests cross.
-pub fn crossing(r: Request, s: Request) -> bool
-    ensures { λ t. ⌜ t ≡ crosses r s ⌝ }
-{
-    if share_end(r, s) {
-        return false;
-    }
-    lies_inside(r, s.a) != lies_inside(r, s.b)
-}
-
-// Whether they do not.
-pub fn compatible(r: Request, s: Request) -> bool
-    ensures { λ t. ⌜ t ≡ compatible r s ⌝ }
-{
-    !crossing(r, s)
 }

@@ -1,98 +1,103 @@
-// The file of the book: read whole, and replaced whole.
-use book::Book;
-use stored::StoreAnswer;
-use stored::stores::store;
+// The file of the book, read whole, and its folder.
+use book_text::obey;
+use streams::Reading;
+use streams::read_to_end;
 ghost use Prim.Native.Nat.{_≤_};
 ghost use lib.ListN.{length};
-ghost use Rattle.ringbook.specs.Files.{ReadFits};
 
-pub enum Reading {
-    Absent,
-    Failed,
-    Read(usize),
+// What a line comes to by the file as it is now: the lengths of the reply and, if it changes the book, of the new bytes. A file that is
+// there and cannot be read comes to the error's number alone.
+pub struct Heard {
+    pub read: bool,
+    pub error: i32,
+    pub changes: bool,
+    pub reply: usize,
+    pub form: usize,
 }
 
-// Reads to the end of the file, or until the buffer is full.
-fn read_open(fd: i32, bytes: &mut [u8]) -> Reading
-    ensures { λ r. ⌜ ReadFits (length (now (bytes .exit))) r ⌝ }
+// The file could not be read.
+fn unread(error: i32) -> Heard
+    ensures none { λ r. ⌜ (r .reply ≤ 0) × (r .form ≤ 0) ⌝ }
 {
-    let mut done: usize = 0;
-    while done < bytes.len() {
-        let got = libc::read(fd, &mut bytes[done..]);
-        if got < 0 {
-            return Reading::Failed;
-        }
-        let count = io::count(got, &bytes[done..]);
-        if count == 0 {
-            return Reading::Read(done);
-        }
-        done += count;
+    Heard {
+        read: false,
+        error: error,
+        changes: false,
+        reply: 0,
+        form: 0,
     }
-    Reading::Read(done)
 }
 
-// Reads the file. One that is there and cannot be opened is not absent.
-pub fn read_file(path: &[u8], bytes: &mut [u8]) -> Reading
-    ensures { λ r. ⌜ ReadFits (length (now (bytes .exit))) r ⌝ }
+// The line, obeyed by the bytes of the file, if there is one.
+fn hear_bytes(present: bool, bytes: &[u8], line: &[u8], reply: &mut [u8], form: &mut [u8]) -> Heard
+    ensures within { λ r. ⌜ (r .reply ≤ length (now (reply .exit))) × (r .form ≤ length (now (form .exit))) ⌝ }
+{
+    let obeyed = obey(present, bytes, line, reply, form);
+    Heard {
+        read: true,
+        error: 0,
+        changes: obeyed.changes,
+        reply: obeyed.reply,
+        form: obeyed.form,
+    }
+}
+
+// The line, obeyed with no file: for one that needs none, and where there is none.
+pub fn hear_alone(line: &[u8], reply: &mut [u8], form: &mut [u8]) -> Heard
+    ensures within { λ r. ⌜ (r .reply ≤ length (now (reply .exit))) × (r .form ≤ length (now (form .exit))) ⌝ }
+{
+    hear_bytes(false, b"", line, reply, form)
+}
+
+// The line, obeyed by what can be read.
+fn hear_open(fd: i32, line: &[u8], reply: &mut [u8], form: &mut [u8]) -> Heard
+    ensures within { λ r. ⌜ (r .reply ≤ length (now (reply .exit))) × (r .form ≤ length (now (form .exit))) ⌝ }
+{
+    // One byte more than a stored form may have: a longer file shows by it.
+    let mut bytes = [0u8; 5121];
+    let reading = read_to_end(fd, &mut bytes);
+    match reading {
+        Reading::Read(length) => hear_bytes(true, &bytes[..length], line, reply, form),
+        Reading::Failed => unread(os::errno()),
+    }
+}
+
+// The line, obeyed by the file. One that is there and cannot be opened is not absent.
+pub fn hear(path: &[u8], line: &[u8], reply: &mut [u8], form: &mut [u8]) -> Heard
+    ensures within { λ r. ⌜ (r .reply ≤ length (now (reply .exit))) × (r .form ≤ length (now (form .exit))) ⌝ }
 {
     let fd = os::open_read(path);
     if fd < 0 {
-        if os::errno() == libc::ENOENT {
-            return Reading::Absent;
+        let error = os::errno();
+        if error == libc::ENOENT {
+            return hear_alone(line, reply, form);
         }
-        return Reading::Failed;
+        return unread(error);
     }
-    let reading = read_open(fd, bytes);
+    let result = hear_open(fd, line, reply, form);
     libc::close(fd);
-    reading
+    result
 }
 
-// Writes the bytes to a new file and brings them to disk.
-fn write_new(path: &[u8], bytes: &[u8]) -> bool {
-    let fd = os::open_overwrite(path);
-    if fd < 0 {
-        return false;
-    }
-    let written = io::write_all(fd, bytes);
-    let synced = libc::fsync(fd);
-    let closed = libc::close(fd);
-    written && synced == 0 && closed == 0
-}
-
-// Puts the bytes into the new file, and the new file in the place of the old one, which stays whole until then.
-fn replace(path: &[u8], beside: &[u8], bytes: &[u8]) -> bool {
-    if !write_new(beside, bytes) {
-        os::unlink(beside);
-        return false;
-    }
-    if os::rename(beside, path) != 0 {
-        os::unlink(beside);
-        return false;
-    }
-    true
-}
-
-// The name of the new file: that of the old one and `.new`.
-fn name_beside(path: &[u8], name: &mut [u8]) -> usize
-    ensures { λ r. ⌜ r ≤ length (now (name .exit)) ⌝ }
+// How many bytes of the path name the folder: those up to the last `/`.
+fn folder_length(path: &[u8]) -> usize
+    ensures { λ r. ⌜ r ≤ length (now (path .entry)) ⌝ }
 {
-    let ending = b".new";
-    if name.len() < path.len() + ending.len() {
-        return 0;
+    let mut end = path.len();
+    while 0 < end {
+        if path[end - 1] == b'/' {
+            return end;
+        }
+        end -= 1;
     }
-    let next = listing::writing::put(name, 0, path);
-    listing::writing::put(name, next, ending)
+    end
 }
 
-// Stores the book in the file.
-pub fn write_file(path: &[u8], book: Book) -> bool {
-    let mut bytes = [0u8; 5120];
-    let answer = store(book, &mut bytes);
-    let StoreAnswer::Stored(length) = answer else {
-        return false;
-    };
-    let size = length as usize;
-    let mut name = io::buffer();
-    let named = name_beside(path, &mut name);
-    replace(path, &name[..named], &bytes[..size])
+// Opens the folder of the file.
+pub fn open_folder(path: &[u8]) -> i32 {
+    let end = folder_length(path);
+    if end == 0 {
+        return os::open_read(b".");
+    }
+    os::open_read(&path[..end])
 }

@@ -1,67 +1,47 @@
-// The book at the desk: commands from standard input, answers to standard output, and the book in the file that the argument names.
+// The book at the desk: commands from standard input, answers to standard output, and the book in the file that the argument names. Nothing
+// of the book stays in memory between two lines: each line acts on the file as it is at that moment.
+mod changes;
+mod failures;
 mod files;
-mod talks;
+mod lines;
+mod pauses;
+mod serving;
 
-use commands::Session;
-use commands::obeying::tell_refusal;
-use files::Reading;
-use files::read_file;
-use files::write_file;
-use stored::loads::LoadAnswer;
-use talks::say;
-use talks::talk;
+use failures::say;
+use lines::talk;
+use texts::writing::put;
+ghost use Prim.Native.Nat.{_≤_};
+ghost use lib.ListN.{length};
 
-// The refusal of a file that stores no book.
-fn say_refused(refusal: ring::Refusal) {
-    let mut out = [0u8; 128];
-    let length = tell_refusal(refusal, &mut out);
-    say(&out[..length]);
+// Answers the lines over the file and over the name beside it, `.new` behind, under which its next bytes are written.
+fn run(path: &[u8])
+    requires { ⌜ length (now path) ≤ 4096 ⌝ }
+{
+    let mut name = [0u8; 4100];
+    let length = put(&mut name, 0, path);
+    let size = put(&mut name, length, b".new");
+    talk(path, &name[..size]);
 }
 
-// Talks, and stores the book if it changed.
-fn serve(path: &[u8], session: Session) {
-    let last = talk(session);
-    if last.changed {
-        let book = last.book;
-        if !write_file(path, book) {
-            say(b"error the book could not be written\n");
-        }
-    }
-}
-
-// Serves the book of the bytes.
-fn serve_stored(path: &[u8], bytes: &[u8]) {
-    let begun = commands::sessions::begin(bytes);
-    let answer = begun.answer;
-    let session = begun.session;
-    match answer {
-        LoadAnswer::Loaded => serve(path, session),
-        LoadAnswer::Refused(refusal) => say_refused(refusal),
-    }
-}
-
-// The book of the file; without a file, no book is open.
-fn run(path: &[u8]) {
-    // One byte more than a stored form may have: a longer file shows by it.
-    let mut bytes = [0u8; 5121];
-    let reading = read_file(path, &mut bytes);
-    match reading {
-        Reading::Absent => serve(path, Session::closed()),
-        Reading::Failed => say(b"error the file cannot be read\n"),
-        Reading::Read(length) => serve_stored(path, &bytes[..length]),
-    }
+// Whether the file is a link. A change would put a file in its place, and two names of one book would not keep each other out.
+fn is_link(path: [u8; 4096]) -> bool {
+    let mut ended = path;
+    ended[4095] = 0;
+    let mut target = [0u8; 1];
+    0 <= libc::readlink(&ended, &mut target)
 }
 
 fn main() {
     let mut path = io::buffer();
     let length = os::arg(1, &mut path);
-    if os::errno() == libc::ENAMETOOLONG {
-        say(b"error the file cannot be read\n");
-        return;
-    }
-    if os::arg_count() != 2 || length == 0 {
+    let error = os::errno();
+    if os::arg_count() != 2 || (length == 0 && error == 0) {
         say(b"usage: ringbook FILE\n");
-        return;
+    } else if error != 0 {
+        say(b"error the name of the file is too long\n");
+    } else if is_link(path) {
+        say(b"error the file is a link: name the file that it leads to\n");
+    } else {
+        run(&path[..length]);
     }
-    run(&path[..length]);
 }

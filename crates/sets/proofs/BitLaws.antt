@@ -69,7 +69,8 @@ module _ (a b k : ℕ) where
       let x = a / 2 ^ k in
       let y = b / 2 ^ k in
       ap (λ (n : ℕ). eqb (n % 2) 1) (and-shr a b k)
-      ∙ ap (λ (d : ℕ). eqb d 1) (low-digit (bitAnd (x / 2) (y / 2)) (min (x % 2) (y % 2)) (bitAnd x y) (and-step x y) (omega (arith, digit-lt x)))
+      ∙ ap (λ (d : ℕ). eqb d 1)
+      (low-digit (bitAnd (x / 2) (y / 2)) (min (x % 2) (y % 2)) (bitAnd x y) (and-step x y) (omega (arith, digit-lt x)))
       ∙ and-digits (x % 2) (y % 2) (digit-lt x) (digit-lt y)
 
   pub on-or : on (bitOr a b) k ≡ (on a k || on b k)
@@ -77,7 +78,8 @@ module _ (a b k : ℕ) where
       let x = a / 2 ^ k in
       let y = b / 2 ^ k in
       ap (λ (n : ℕ). eqb (n % 2) 1) (or-shr a b k)
-      ∙ ap (λ (d : ℕ). eqb d 1) (low-digit (bitOr (x / 2) (y / 2)) (max (x % 2) (y % 2)) (bitOr x y) (or-step x y) (omega (arith, digit-lt x, digit-lt y)))
+      ∙ ap (λ (d : ℕ). eqb d 1)
+      (low-digit (bitOr (x / 2) (y / 2)) (max (x % 2) (y % 2)) (bitOr x y) (or-step x y) (omega (arith, digit-lt x, digit-lt y)))
       ∙ or-digits (x % 2) (y % 2) (digit-lt x) (digit-lt y)
 
   pub on-xor : on (bitXor a b) k ≡ xor (on a k) (on b k)
@@ -130,7 +132,8 @@ pub on-one : (j k : ℕ) → on (1 * 2 ^ j) k ≡ eqb k j
 on-one zero zero = refl
 on-one zero (suc k) = ap (λ (d : ℕ). eqb d 1) (bit-suc 1 k ∙ bit-zero k) ∙ sym (eqb·suc-zero k)
 on-one (suc j) zero = ap (λ (d : ℕ). eqb d 1) (bit-low (1 * 2 ^ suc j) ∙ shifted-even 1 j) ∙ sym (eqb·zero-suc j)
-on-one (suc j) (suc k) = ap (λ (d : ℕ). eqb d 1) (bit-suc (1 * 2 ^ suc j) k ∙ ap (λ (n : ℕ). bit n k) (shifted-half 1 j)) ∙ on-one j k ∙ sym (eqb·suc-suc k j)
+on-one (suc j) (suc k) =
+    ap (λ (d : ℕ). eqb d 1) (bit-suc (1 * 2 ^ suc j) k ∙ ap (λ (n : ℕ). bit n k) (shifted-half 1 j)) ∙ on-one j k ∙ sym (eqb·suc-suc k j)
 
 -- all of w digits shifted up by j: the bits from j on
 pub on-ones : (w j k : ℕ) → k < w → on ((2 ^ w - 1) * 2 ^ j) k ≡ leb j k
@@ -141,4 +144,6 @@ on-ones w zero k h =
     ∙ ap (λ (d : ℕ). not (eqb d 1)) (bit-zero k)
     ∙ sym (leb·zero k)
 on-ones w (suc j) zero h = ap (λ (d : ℕ). eqb d 1) (bit-low ((2 ^ w - 1) * 2 ^ suc j) ∙ shifted-even (2 ^ w - 1) j) ∙ sym (leb·suc-zero j)
-on-ones w (suc j) (suc k) h = ap (λ (d : ℕ). eqb d 1) (bit-suc ((2 ^ w - 1) * 2 ^ suc j) k ∙ ap (λ (n : ℕ). bit n k) (shifted-half (2 ^ w - 1) j)) ∙ on-ones w j k (omega arith) ∙ sym (leb·suc-suc j k)
+on-ones w (suc j) (suc k) h =
+    ap (λ (d : ℕ). eqb d 1) (bit-suc ((2 ^ w - 1) * 2 ^ suc j) k ∙ ap (λ (n : ℕ). bit n k) (shifted-half (2 ^ w - 1) j))
+    ∙ on-ones w j k (omega arith) ∙ sym (leb·suc-suc j k)

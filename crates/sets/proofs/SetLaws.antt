@@ -1,5 +1,5 @@
 -- Sets, by the words that hold their numbers.
-use Prim.Native.Nat.{ℕ, zero, suc, _-_, _*_, _/_, _%_, _^_, _<_}
+use Prim.Native.Nat.{ℕ, zero, suc, _*_, _/_, _%_, _^_, _<_}
 use mathlib.Core.Path.{_≡_, refl, ap, _∙_}
 use mathlib.Core.Bool.{false, cond, _&&_, _||_, or-comm}
 use mathlib.Core.List.{List, []}
@@ -34,7 +34,8 @@ has-none y = has-zeros 8 y
 pub has-set : (words : List ℕ) (k v y : ℕ) → k < length words → has (set words k v) y ≡ cond (eqb (y / 64) k) (on v (y % 64)) (has words y)
 unfolding has
 has-set words k v y h = elim (ℕ-discrete (y / 64) k) [
-  | yes e ↦ ap (λ (w : ℕ). on w (y % 64)) (ap (λ (i : ℕ). getD (set words k v) i 0) e ∙ getD-set-same words k v 0 h) ∙ cc (eq-eqb (y / 64) k e)
+  | yes e ↦
+      ap (λ (w : ℕ). on w (y % 64)) (ap (λ (i : ℕ). getD (set words k v) i 0) e ∙ getD-set-same words k v 0 h) ∙ cc (eq-eqb (y / 64) k e)
   | no n ↦ ap (λ (w : ℕ). on w (y % 64)) (getD-set-other words k (y / 64) v 0 n) ∙ cc (ne-eqb (y / 64) k n)
 ]
 
@@ -83,7 +84,9 @@ module _ (words : List ℕ) (z : ℕ) (h : z / 64 < length words) (y : ℕ) wher
 module _ (sets : List (List ℕ)) (x : ℕ) (row : List ℕ) (h : x < length sets) (y : ℕ) where
   pub has-row : (j : ℕ) → has (getD (set sets x row) y []) j ≡ cond (eqb y x) (has row j) (has (getD sets y []) j)
   has-row j = elim (ℕ-discrete y x) [
-    | yes e ↦ ap (λ (i : ℕ). has (getD (set sets x row) i []) j) e ∙ ap (λ (l : List ℕ). has l j) (getD-set-same sets x row [] h) ∙ cc (eq-eqb y x e)
+    | yes e ↦
+        ap (λ (i : ℕ). has (getD (set sets x row) i []) j) e ∙ ap (λ (l : List ℕ). has l j) (getD-set-same sets x row [] h)
+        ∙ cc (eq-eqb y x e)
     | no n ↦ ap (λ (l : List ℕ). has l j) (getD-set-other sets x y row [] n) ∙ cc (ne-eqb y x n)
   ]
 

@@ -26,7 +26,8 @@ fn lowest(word: u64) -> usize
 // The first number of the set from `from` on and below m, or m: word by word, the first one without the numbers below `from`.
 pub fn next(words: &[u64; 8], from: usize, m: usize) -> usize
     requires { ⌜ (m ≤ 512) × (from ≤ m) × (length (now words) ≡ 8) ⌝ }
-    ensures { λ r. ⌜ (from ≤ r) × (r ≤ m) × ((z : ℕ) → from ≤ z → z < r → has (now (words .entry)) z ≡ false) × (r < m → has (now (words .entry)) r ≡ true) ⌝ }
+    ensures { λ r. ⌜ (from ≤ r) × (r ≤ m) × ((z : ℕ) → from ≤ z → z < r → has (now (words .entry)) z ≡ false)
+        × (r < m → has (now (words .entry)) r ≡ true) ⌝ }
 {
     if m <= from {
         return m;

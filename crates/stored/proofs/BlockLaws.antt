@@ -10,8 +10,11 @@ use Rattle.book.specs.declared.circuits.Circuit.{Circuit}
 use Rattle.ring.specs.declared.fates.Fate.the-variants.{Served}
 use Rattle.ring.specs.Fates.{fateNumber}
 use Rattle.stored.specs.Forms.{recordBytes}
-use Rattle.stored.specs.Blocks.{word, written, weighted, checkOf, numbered, blockOf, sealed}
-use Rattle.stored.proofs.Lists.{pad, pad-none, pad-written, pad-zeros, written-append}
+use Rattle.ring.specs.Buffers.{written}
+use Rattle.stored.specs.Blocks.{word, weighted, checkOf, numbered, blockOf}
+use Rattle.stored.specs.Internal.Handing.{sealed}
+use Rattle.ring.proofs.BufferLaws.{written-twice}
+use Rattle.stored.proofs.Lists.{pad, pad-none, pad-written, pad-zeros}
 
 -- a number of more than 16 bits is cut
 quotients : (x : ℕ) → x / 65536 ≡ x / 256 / 256
@@ -45,7 +48,8 @@ word-cut x =
 
 module _ (k : ℕ) (l : List ℕ) (h : length l ≤ 508) where
   pub filled-length : length (l ++ replicate (508 - length l) 0) ≡ 508
-  filled-length = length-append l (replicate (508 - length l) 0) ∙ ap (λ (j : ℕ). length l + j) (length-replicate (508 - length l) 0) ∙ omega arith
+  filled-length = length-append l (replicate (508 - length l) 0) ∙ ap (λ (j : ℕ). length l + j) (length-replicate (508 - length l) 0)
+      ∙ omega arith
 
   pub numbered-length : length (numbered k l) ≡ 510
   unfolding numbered
@@ -77,32 +81,45 @@ module _ (k : ℕ) (l : List ℕ) (h : length l ≤ 508) where
       ∙ append-nil (numbered k l ++ word (checkOf (numbered k l)))
 
 -- the steps of the code, one behind the other
-pub sealed-steps : (k check : ℕ) (l₀ l₁ l₂ : List ℕ) → l₁ ≡ written l₀ 508 (word k) → check ≡ checkOf l₁ → l₂ ≡ written l₁ 510 (word check) → l₂ ≡ sealed k l₀
+pub sealed-steps : (k check : ℕ) (l₀ l₁ l₂ : List ℕ) → l₁ ≡ written l₀ 508 (word k) → check ≡ checkOf l₁ → l₂ ≡ written l₁ 510 (word check)
+    → l₂ ≡ sealed k l₀
 unfolding sealed
 sealed-steps k check l₀ l₁ l₂ e₁ c e₂ =
     e₂
     ∙ ap (λ (y : ℕ). written l₁ 510 (word y)) c
     ∙ ap (λ (l : List ℕ). written l 510 (word (checkOf l))) e₁
 
-pub record-steps : (circuit : Circuit) (at fate : ℕ) (l₀ l₁ l₂ l₃ l₄ : List ℕ) → at + 8 ≤ length l₀ → fate ≡ fateNumber (Served (circuit .way) (circuit .colour)) % 65536
-    → l₁ ≡ written l₀ at (word (circuit .serial)) → l₂ ≡ written l₁ (at + 2) (word (circuit .a)) → l₃ ≡ written l₂ (at + 4) (word (circuit .b)) → l₄ ≡ written l₃ (at + 6) (word fate)
+pub record-steps : (circuit : Circuit) (at fate : ℕ) (l₀ l₁ l₂ l₃ l₄ : List ℕ) → at + 8 ≤ length l₀
+    → fate ≡ fateNumber (Served (circuit .way) (circuit .colour)) % 65536
+    → l₁ ≡ written l₀ at (word (circuit .serial)) → l₂ ≡ written l₁ (at + 2) (word (circuit .a))
+    → l₃ ≡ written l₂ (at + 4) (word (circuit .b)) → l₄ ≡ written l₃ (at + 6) (word fate)
     → l₄ ≡ written l₀ at (recordBytes circuit)
 record-steps circuit at fate l₀ l₁ l₂ l₃ l₄ h f e₁ e₂ e₃ e₄ =
-    let k₂ : l₂ ≡ written l₀ at (word (circuit .serial) ++ word (circuit .a)) = e₂ ∙ ap (λ (l : List ℕ). written l (at + 2) (word (circuit .a))) e₁ ∙ written-append l₀ at (word (circuit .serial)) (word (circuit .a)) (omega arith) in
-    let k₃ : l₃ ≡ written l₀ at (word (circuit .serial) ++ word (circuit .a) ++ word (circuit .b)) = e₃ ∙ ap (λ (l : List ℕ). written l (at + 4) (word (circuit .b))) k₂ ∙ written-append l₀ at (word (circuit .serial) ++ word (circuit .a)) (word (circuit .b)) (omega arith) in
+    let k₂ : l₂ ≡ written l₀ at (word (circuit .serial) ++ word (circuit .a)) = e₂
+    ∙ ap (λ (l : List ℕ). written l (at + 2) (word (circuit .a))) e₁
+    ∙ written-twice l₀ at (word (circuit .serial)) (word (circuit .a)) (omega arith) in
+    let k₃ : l₃ ≡ written l₀ at (word (circuit .serial) ++ word (circuit .a) ++ word (circuit .b)) = e₃
+    ∙ ap (λ (l : List ℕ). written l (at + 4) (word (circuit .b))) k₂
+    ∙ written-twice l₀ at (word (circuit .serial) ++ word (circuit .a)) (word (circuit .b)) (omega arith) in
     e₄
     ∙ ap (λ (l : List ℕ). written l (at + 6) (word fate)) k₃
     ∙ ap (λ (y : ℕ). written (written l₀ at (word (circuit .serial) ++ word (circuit .a) ++ word (circuit .b))) (at + 6) (word y)) f
-    ∙ ap (λ (v : List ℕ). written (written l₀ at (word (circuit .serial) ++ word (circuit .a) ++ word (circuit .b))) (at + 6) v) (word-cut (fateNumber (Served (circuit .way) (circuit .colour))))
-    ∙ written-append l₀ at (word (circuit .serial) ++ word (circuit .a) ++ word (circuit .b)) (word (fateNumber (Served (circuit .way) (circuit .colour)))) (omega arith)
+    ∙ ap (λ (v : List ℕ). written (written l₀ at (word (circuit .serial) ++ word (circuit .a) ++ word (circuit .b))) (at + 6) v)
+    (word-cut (fateNumber (Served (circuit .way) (circuit .colour))))
+    ∙ written-twice l₀ at (word (circuit .serial) ++ word (circuit .a) ++ word (circuit .b))
+    (word (fateNumber (Served (circuit .way) (circuit .colour)))) (omega arith)
 
 pub header-steps : (n w grants live : ℕ) (l₀ l₁ l₂ l₃ l₄ l₅ l₆ : List ℕ) → length l₀ ≡ 512 → l₁ ≡ replicate (length l₀) 0
-    → l₂ ≡ written l₁ 0 (word n) → l₃ ≡ written l₂ 2 (word w) → l₄ ≡ written l₃ 4 (word grants) → l₅ ≡ written l₄ 6 (word live) → l₆ ≡ sealed 0 l₅
+    → l₂ ≡ written l₁ 0 (word n) → l₃ ≡ written l₂ 2 (word w) → l₄ ≡ written l₃ 4 (word grants) → l₅ ≡ written l₄ 6 (word live)
+    → l₆ ≡ sealed 0 l₅
     → l₆ ≡ blockOf 0 (word n ++ (word w ++ (word grants ++ word live)))
 header-steps n w grants live l₀ l₁ l₂ l₃ l₄ l₅ l₆ h e₁ e₂ e₃ e₄ e₅ e₆ =
     let k₁ : l₁ ≡ pad [] = e₁ ∙ ap (λ (j : ℕ). replicate j 0) h ∙ sym pad-none in
     let k₂ : l₂ ≡ pad (word n) = e₂ ∙ ap (λ (l : List ℕ). written l 0 (word n)) k₁ ∙ pad-written [] (word n) 0 refl (omega arith) in
-    let k₃ : l₃ ≡ pad (word n ++ word w) = e₃ ∙ ap (λ (l : List ℕ). written l 2 (word w)) k₂ ∙ pad-written (word n) (word w) 2 refl (omega arith) in
-    let k₄ : l₄ ≡ pad (word n ++ word w ++ word grants) = e₄ ∙ ap (λ (l : List ℕ). written l 4 (word grants)) k₃ ∙ pad-written (word n ++ word w) (word grants) 4 refl (omega arith) in
-    let k₅ : l₅ ≡ pad (word n ++ word w ++ word grants ++ word live) = e₅ ∙ ap (λ (l : List ℕ). written l 6 (word live)) k₄ ∙ pad-written (word n ++ word w ++ word grants) (word live) 6 refl (omega arith) in
+    let k₃ : l₃ ≡ pad (word n ++ word w) = e₃ ∙ ap (λ (l : List ℕ). written l 2 (word w)) k₂
+    ∙ pad-written (word n) (word w) 2 refl (omega arith) in
+    let k₄ : l₄ ≡ pad (word n ++ word w ++ word grants) = e₄ ∙ ap (λ (l : List ℕ). written l 4 (word grants)) k₃
+    ∙ pad-written (word n ++ word w) (word grants) 4 refl (omega arith) in
+    let k₅ : l₅ ≡ pad (word n ++ word w ++ word grants ++ word live) = e₅ ∙ ap (λ (l : List ℕ). written l 6 (word live)) k₄
+    ∙ pad-written (word n ++ word w ++ word grants) (word live) 6 refl (omega arith) in
     e₆ ∙ ap (sealed 0) k₅ ∙ sealed-pad 0 (word n ++ word w ++ word grants ++ word live) (omega arith)

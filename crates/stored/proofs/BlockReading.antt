@@ -39,8 +39,11 @@ module _ (p u q : List ℕ) (n : ℕ) (e : length p ≡ n) where
       let l : length (p ++ u) ≡ n + length u = length-append p u ∙ ap (λ (k : ℕ). k + length u) e in
       let m : length ((p ++ u) ++ (x ∷ [])) ≡ n + length u + 1 = length-append (p ++ u) (x ∷ []) ∙ ap (λ (k : ℕ). k + 1) l in
       let a : p ++ (u ++ (x ∷ y ∷ q)) ≡ (p ++ u) ++ (x ∷ y ∷ q) = sym (append-assoc p u (x ∷ y ∷ q)) in
-      let f : getD (p ++ (u ++ (x ∷ y ∷ q))) (n + length u) 0 ≡ x = ap (λ (k : List ℕ). getD k (n + length u) 0) a ∙ getD-at (p ++ u) x (y ∷ q) 0 (n + length u) l in
-      let g : getD (p ++ (u ++ (x ∷ y ∷ q))) (n + length u + 1) 0 ≡ y = ap (λ (k : List ℕ). getD k (n + length u + 1) 0) (a ∙ sym (append-snoc (p ++ u) x (y ∷ q))) ∙ getD-at ((p ++ u) ++ (x ∷ [])) y q 0 (n + length u + 1) m in
+      let f : getD (p ++ (u ++ (x ∷ y ∷ q))) (n + length u) 0 ≡ x = ap (λ (k : List ℕ). getD k (n + length u) 0) a
+      ∙ getD-at (p ++ u) x (y ∷ q) 0 (n + length u) l in
+      let g : getD (p ++ (u ++ (x ∷ y ∷ q))) (n + length u + 1) 0 ≡ y =
+      ap (λ (k : List ℕ). getD k (n + length u + 1) 0) (a ∙ sym (append-snoc (p ++ u) x (y ∷ q)))
+      ∙ getD-at ((p ++ u) ++ (x ∷ [])) y q 0 (n + length u + 1) m in
       ap (λ (k : ℕ). k + 256 * getD (p ++ (u ++ (x ∷ y ∷ q))) (n + length u + 1) 0) f ∙ ap (λ (k : ℕ). x + 256 * k) g
 
   pub word-read : (x : ℕ) → x < 65536 → wordAt (p ++ (u ++ (word x ++ q))) (n + length u) ≡ x
@@ -57,13 +60,20 @@ pub circuit-read : (p q : List ℕ) (n : ℕ) (c : Circuit) → length p ≡ n �
 unfolding circuitAt
 circuit-read p q n c e f =
     let fate = fateNumber (Served (c .way) (c .colour)) in
-    let z : wordAt (p ++ (recordBytes c ++ q)) n ≡ wordAt (p ++ (recordBytes c ++ q)) (n + 0) = ap (wordAt (p ++ (recordBytes c ++ q))) (sym (add-zero n)) in
-    let s : wordAt (p ++ (recordBytes c ++ q)) n ≡ c .serial = z ∙ word-read p [] (word (c .a) ++ (word (c .b) ++ (word fate ++ q))) n e (c .serial) (f .serial) in
-    let a : wordAt (p ++ (recordBytes c ++ q)) (n + 2) ≡ c .a = word-read p (word (c .serial)) (word (c .b) ++ (word fate ++ q)) n e (c .a) (f .first) in
-    let b : wordAt (p ++ (recordBytes c ++ q)) (n + 4) ≡ c .b = word-read p (word (c .serial) ++ word (c .a)) (word fate ++ q) n e (c .b) (f .second) in
-    let k : wordAt (p ++ (recordBytes c ++ q)) (n + 6) ≡ fate = word-read p (word (c .serial) ++ (word (c .a) ++ word (c .b))) q n e fate (f .fate) in
-    ap (λ (x : ℕ). circuitFrom x (wordAt (p ++ (recordBytes c ++ q)) (n + 2)) (wordAt (p ++ (recordBytes c ++ q)) (n + 4)) (fateOf (wordAt (p ++ (recordBytes c ++ q)) (n + 6)))) s
-    ∙ ap (λ (x : ℕ). circuitFrom (c .serial) x (wordAt (p ++ (recordBytes c ++ q)) (n + 4)) (fateOf (wordAt (p ++ (recordBytes c ++ q)) (n + 6)))) a
+    let z : wordAt (p ++ (recordBytes c ++ q)) n ≡ wordAt (p ++ (recordBytes c ++ q)) (n + 0) =
+    ap (wordAt (p ++ (recordBytes c ++ q))) (sym (add-zero n)) in
+    let s : wordAt (p ++ (recordBytes c ++ q)) n ≡ c .serial = z
+    ∙ word-read p [] (word (c .a) ++ (word (c .b) ++ (word fate ++ q))) n e (c .serial) (f .serial) in
+    let a : wordAt (p ++ (recordBytes c ++ q)) (n + 2) ≡ c .a =
+    word-read p (word (c .serial)) (word (c .b) ++ (word fate ++ q)) n e (c .a) (f .first) in
+    let b : wordAt (p ++ (recordBytes c ++ q)) (n + 4) ≡ c .b =
+    word-read p (word (c .serial) ++ word (c .a)) (word fate ++ q) n e (c .b) (f .second) in
+    let k : wordAt (p ++ (recordBytes c ++ q)) (n + 6) ≡ fate =
+    word-read p (word (c .serial) ++ (word (c .a) ++ word (c .b))) q n e fate (f .fate) in
+    ap (λ (x : ℕ). circuitFrom x (wordAt (p ++ (recordBytes c ++ q)) (n + 2)) (wordAt (p ++ (recordBytes c ++ q)) (n + 4))
+    (fateOf (wordAt (p ++ (recordBytes c ++ q)) (n + 6)))) s
+    ∙ ap (λ (x : ℕ). circuitFrom (c .serial) x (wordAt (p ++ (recordBytes c ++ q)) (n + 4))
+    (fateOf (wordAt (p ++ (recordBytes c ++ q)) (n + 6)))) a
     ∙ ap (λ (x : ℕ). circuitFrom (c .serial) (c .a) x (fateOf (wordAt (p ++ (recordBytes c ++ q)) (n + 6)))) b
     ∙ ap (λ (x : Fate). circuitFrom (c .serial) (c .a) (c .b) x) (ap fateOf k ∙ fate-of-number (Served (c .way) (c .colour)))
 
@@ -99,14 +109,18 @@ module _ (k : ℕ) (l : List ℕ) where
   pub block-is-right : length l ≤ 508 → k < 65536 → blockRight k (blockOf k l) ≡ true
   unfolding blockRight
   block-is-right h s =
-      ap (λ (t : Bool). t && eqb (wordAt (blockOf k l) 510) (checkOf (blockOf k l))) (eq-eqb (wordAt (blockOf k l) 508) k (block-number h s))
+      ap (λ (t : Bool). t && eqb (wordAt (blockOf k l) 510) (checkOf (blockOf k l)))
+      (eq-eqb (wordAt (blockOf k l) 508) k (block-number h s))
       ∙ eq-eqb (wordAt (blockOf k l) 510) (checkOf (blockOf k l)) (block-check h ∙ sym (check-whole h))
 
 -- the records of a block
 module _ (k : ℕ) (rs : List Circuit) where
-  at-record : (i : ℕ) → i < length rs → recordsBytes rs ≡ recordsBytes (take i rs) ++ (recordBytes (circuit rs i) ++ recordsBytes (drop (i + 1) rs))
+  at-record : (i : ℕ) → i < length rs
+      → recordsBytes rs ≡ recordsBytes (take i rs) ++ (recordBytes (circuit rs i) ++ recordsBytes (drop (i + 1) rs))
   at-record i h =
-      ap recordsBytes (sym (take-append-drop i rs) ∙ ap (λ (xs : List Circuit). take i rs ++ xs) (drop-cons rs i vacant h ∙ ap (λ (j : ℕ). getD rs i vacant ∷ drop j rs) (sym (add-one i))))
+      ap recordsBytes (sym (take-append-drop i rs)
+      ∙ ap (λ (xs : List Circuit). take i rs ++ xs) (drop-cons rs i vacant h
+      ∙ ap (λ (j : ℕ). getD rs i vacant ∷ drop j rs) (sym (add-one i))))
       ∙ records-append (take i rs) (circuit rs i ∷ drop (i + 1) rs)
 
   pub record-back : (i : ℕ) → i < length rs → Fields (circuit rs i) → circuitAt (blockOf k (recordsBytes rs)) (8 * i) ≡ circuit rs i
@@ -118,7 +132,8 @@ module _ (k : ℕ) (rs : List Circuit) where
       ∙ append-assoc (recordsBytes (take i rs)) (recordBytes (circuit rs i) ++ recordsBytes (drop (i + 1) rs)) (behind k (recordsBytes rs)))
       ∙ circuit-read (recordsBytes (take i rs)) (recordsBytes (drop (i + 1) rs) ++ behind k (recordsBytes rs)) (8 * i) (circuit rs i) m f
 
-  pub records-back : ((i : ℕ) → i < length rs → Fields (circuit rs i)) → (m : ℕ) → m ≤ length rs → recordsIn (blockOf k (recordsBytes rs)) m ≡ take m rs
+  pub records-back : ((i : ℕ) → i < length rs → Fields (circuit rs i)) → (m : ℕ) → m ≤ length rs
+      → recordsIn (blockOf k (recordsBytes rs)) m ≡ take m rs
   records-back f zero h = refl
   records-back f (suc m) h =
       ap (λ (xs : List Circuit). xs ++ (circuitAt (blockOf k (recordsBytes rs)) (8 * m) ∷ [])) (records-back f m (omega arith))

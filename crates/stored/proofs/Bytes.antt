@@ -65,6 +65,7 @@ unfolding blockOf numbered
 block-bytes b k =
     append-bytes (numbered k (contents b k)) (word (checkOf (numbered k (contents b k))))
     (append-bytes (contents b k ++ replicate (508 - length (contents b k)) 0) (word k)
-    (append-bytes (contents b k) (replicate (508 - length (contents b k)) 0) (contents-bytes b k) (zeros-bytes (508 - length (contents b k))))
+    (append-bytes (contents b k) (replicate (508 - length (contents b k)) 0) (contents-bytes b k)
+    (zeros-bytes (508 - length (contents b k))))
     (word-bytes k))
     (word-bytes (checkOf (numbered k (contents b k))))

@@ -27,7 +27,8 @@ use Rattle.stored.proofs.Promised.{right-length}
 -- numbers of a row with one byte changed
 module _ (l : List ℕ) (j x : ℕ) where
   pub word-kept : (a : ℕ) → (a ≡ j → ⊥) → (a + 1 ≡ j → ⊥) → wordAt (set l j x) a ≡ wordAt l a
-  word-kept a p q = ap (λ (k : ℕ). k + 256 * getD (set l j x) (a + 1) 0) (getD-set-other l j a x 0 p) ∙ ap (λ (k : ℕ). getD l a 0 + 256 * k) (getD-set-other l j (a + 1) x 0 q)
+  word-kept a p q = ap (λ (k : ℕ). k + 256 * getD (set l j x) (a + 1) 0) (getD-set-other l j a x 0 p)
+      ∙ ap (λ (k : ℕ). getD l a 0 + 256 * k) (getD-set-other l j (a + 1) x 0 q)
 
   pub word-changed : (a : ℕ) → j < length l → (x ≡ getD l j 0 → ⊥) → a ≤ j → j ≤ a + 1 → wordAt (set l j x) a ≡ wordAt l a → ⊥
   word-changed a h different p q e =
@@ -82,7 +83,8 @@ module _ (b : Book) (k : ℕ) (small : k < 65536) (j x : ℕ) (h : j < 512) (hx 
             elim (compare j 510) [
               | less p q ↦
                   wrong-number k (set block j x) (λ e.
-                  word-changed block j x 508 (omega arith) different u (omega arith) (e ∙ sym (block-number k (contents b k) (contents-few b k) small)))
+                  word-changed block j x 508 (omega arith) different u (omega arith) (e
+                  ∙ sym (block-number k (contents b k) (contents-few b k) small)))
               | not-less p q ↦
                   wrong-check k (set block j x) (λ e.
                   word-changed block j x 510 (omega arith) different p (omega arith) (e ∙ kept-check p ∙ sym checked))

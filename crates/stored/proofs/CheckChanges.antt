@@ -22,7 +22,8 @@ sum-changed (y ∷ ys) s zero x m h e =
     let q : y * m ≡ y * (s + 1) = ap (λ (k : ℕ). y * k) f in
     omega arith
 sum-changed (y ∷ ys) s (suc j) x m h e =
-    let r : weighted (s + 1) (set ys j x) + getD ys j 0 * m ≡ weighted (s + 1) ys + x * m = sum-changed ys (s + 1) j x m (omega arith) (omega arith) in
+    let r : weighted (s + 1) (set ys j x) + getD ys j 0 * m ≡ weighted (s + 1) ys + x * m =
+    sum-changed ys (s + 1) j x m (omega arith) (omega arith) in
     omega arith
 
 -- no number from 2 to 255 divides 65,521
@@ -69,24 +70,30 @@ shifted S R d m h k p l e f =
     ]
 
 -- the check of a block with one of its first 508 bytes changed
-pub check-changed : (l : List ℕ) (j x : ℕ) → length l ≡ 512 → j < 508 → x < 256 → getD l j 0 < 256 → (x ≡ getD l j 0 → ⊥) → checkOf (set l j x) ≡ checkOf l → ⊥
+pub check-changed : (l : List ℕ) (j x : ℕ) → length l ≡ 512 → j < 508 → x < 256 → getD l j 0 < 256 → (x ≡ getD l j 0 → ⊥)
+    → checkOf (set l j x) ≡ checkOf l → ⊥
 unfolding checkOf
 check-changed l j x n h hx hy different e =
     let k : j < length (take 510 l) = omega (arith, length-take-le 510 l (omega arith)) in
     let f : weighted 0 (take 510 (set l j x)) ≡ weighted 0 (set (take 510 l) j x) = ap (weighted 0) (take-set-lt 510 l j x (omega arith)) in
     let o : getD (take 510 l) j 0 * (j + 1) ≡ getD l j 0 * (j + 1) = ap (λ (z : ℕ). z * (j + 1)) (getD-take 510 l j 0 (omega arith)) in
-    let c : weighted 0 (set (take 510 l) j x) + getD (take 510 l) j 0 * (j + 1) ≡ weighted 0 (take 510 l) + x * (j + 1) = sum-changed (take 510 l) 0 j x (j + 1) k (omega arith) in
+    let c : weighted 0 (set (take 510 l) j x) + getD (take 510 l) j 0 * (j + 1) ≡ weighted 0 (take 510 l) + x * (j + 1) =
+    sum-changed (take 510 l) 0 j x (j + 1) k (omega arith) in
     elim (compare x (getD l j 0)) [
       | less a b ↦
           let d : getD l j 0 ≡ x + (getD l j 0 - x) = omega arith in
-          let p : getD l j 0 * (j + 1) ≡ x * (j + 1) + (getD l j 0 - x) * (j + 1) = ap (λ (z : ℕ). z * (j + 1)) d ∙ add-mul x (getD l j 0 - x) (j + 1) in
-          shifted (weighted 0 (take 510 (set l j x))) (weighted 0 (take 510 l)) (getD l j 0 - x) (j + 1) (omega arith) (omega arith) (omega arith) (omega arith) (omega arith) (sym e)
+          let p : getD l j 0 * (j + 1) ≡ x * (j + 1) + (getD l j 0 - x) * (j + 1) = ap (λ (z : ℕ). z * (j + 1)) d
+          ∙ add-mul x (getD l j 0 - x) (j + 1) in
+          shifted (weighted 0 (take 510 (set l j x))) (weighted 0 (take 510 l)) (getD l j 0 - x) (j + 1) (omega arith) (omega arith)
+          (omega arith) (omega arith) (omega arith) (sym e)
       | not-less a b ↦
           elim (compare (getD l j 0) x) [
             | less u v ↦
                 let d : x ≡ getD l j 0 + (x - getD l j 0) = omega arith in
-                let p : x * (j + 1) ≡ getD l j 0 * (j + 1) + (x - getD l j 0) * (j + 1) = ap (λ (z : ℕ). z * (j + 1)) d ∙ add-mul (getD l j 0) (x - getD l j 0) (j + 1) in
-                shifted (weighted 0 (take 510 l)) (weighted 0 (take 510 (set l j x))) (x - getD l j 0) (j + 1) (omega arith) (omega arith) (omega arith) (omega arith) (omega arith) e
+                let p : x * (j + 1) ≡ getD l j 0 * (j + 1) + (x - getD l j 0) * (j + 1) = ap (λ (z : ℕ). z * (j + 1)) d
+                ∙ add-mul (getD l j 0) (x - getD l j 0) (j + 1) in
+                shifted (weighted 0 (take 510 l)) (weighted 0 (take 510 (set l j x))) (x - getD l j 0) (j + 1) (omega arith) (omega arith)
+                (omega arith) (omega arith) (omega arith) e
             | not-less u v ↦ different (omega arith)
           ]
     ]

@@ -7,7 +7,7 @@ use native.Mathlib.Nat.{mul-le-mul}
 use lib.ListN.{length, getD, take, drop, drop-of-length-le}
 use lib.Seq.{getD-take, length-take-le}
 use Rattle.stored.specs.Blocks.{weighted}
-use Rattle.stored.proofs.Lists.{drop-next}
+use Rattle.ring.proofs.ListLaws.{drop-next}
 
 pub term-bound : (x i : ℕ) → x < 256 → i < 510 → x * (i + 1) ≤ 130050
 term-bound x i h k = mul-le-mul {n₁ = x} {m₁ = i + 1} {n₂ = 255} {m₂ = 510} (omega arith) (omega arith)

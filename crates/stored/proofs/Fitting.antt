@@ -1,23 +1,25 @@
 -- The tests of load pass exactly on valid books.
 use Prim.Native.Nat.{ℕ, zero, suc, _≤_, _<_}
 use mathlib.Core.Path.{_≡_, refl, sym, _∙_, ap, subst}
-use mathlib.Core.Bool.{true, false, not}
+use mathlib.Core.Bool.{true, false, not, _&&_}
 use mathlib.Core.List.{List}
 use native.Mathlib.Omega.{arith}
-use borrow.Author.Tests.{ltb-true, leb-true, lt-ltb, le-leb, not-true}
+use borrow.Author.Tests.{eqb-true, eq-eqb, ltb-true, leb-true, lt-ltb, le-leb, not-true}
+use lib.Dec.{eqb}
 use lib.ListN.{length, take}
 use lib.Seq.{getD-take, length-take-le}
-use Rattle.ring.proofs.Cases.{compare, less, not-less}
+use Rattle.ring.specs.Ways.{uses}
+use Rattle.ring.proofs.Cases.{compare, less, not-less, and-true}
+use Rattle.ring.proofs.WayLaws.{not-both, found-some, none-some}
 use Rattle.book.specs.declared.circuits.Circuit.{Circuit}
 use Rattle.book.specs.declared.books.Book.{Book}
-use Rattle.book.specs.Circuits.{vacant, circuit, endsOf}
+use Rattle.book.specs.Circuits.{vacant, circuit, endsOf, holds}
 use Rattle.book.specs.Books.{liveOf, bookOf, Valid, ValidCircuits}
-use Rattle.book.specs.Conflicts.{conflicts, conflictIn}
-use Rattle.book.proofs.ConflictLaws.{and-true, true-and}
+use Rattle.book.specs.Grants.{heldIn, heldOnWay}
+use Rattle.book.proofs.ConflictLaws.{true-and}
 use Rattle.book.proofs.CircuitLists.{Place, some-place, place-some}
 use Rattle.stored.specs.Validity.{ringFits, circuitFits, serialFits, mayFollow, lastSerial, circuitsFit, bookFits}
 use Rattle.stored.proofs.Joins.{never, contrary}
-use Rattle.stored.proofs.Conflicting.{conflict-links, conflict-none}
 
 module _ (b : Book) where
   abbrev cs : List Circuit
@@ -31,17 +33,18 @@ module _ (b : Book) where
 
   -- a valid book passes
   module _ (v : Valid b) where
-    no-conflict : (i : ℕ) → i < length cs → conflictIn (take i cs) (at i .way) (endsOf (at i)) (at i .colour) ≡ false
-    unfolding conflictIn
-    no-conflict i h =
-        never (conflictIn (take i cs) (at i .way) (endsOf (at i)) (at i .colour)) (λ e.
-        let p : Place (take i cs) (λ c. conflicts c (at i .way) (endsOf (at i)) (at i .colour)) = some-place (take i cs) (λ c. conflicts c (at i .way) (endsOf (at i)) (at i .colour)) e in
-        let l : p .place < i = omega (arith, p .below, length-take-le i cs (omega arith)) in
-        let q : conflicts (at (p .place)) (at i .way) (endsOf (at i)) (at i .colour) ≡ true = sym (ap (λ (c : Circuit). conflicts c (at i .way) (endsOf (at i)) (at i .colour)) (earlier i (p .place) l)) ∙ p .has in
-        let k : p .place < length cs = omega arith in
-        let s = v .circuits .ends (p .place) k in
-        let t = v .circuits .ends i h in
-        contrary q (conflict-none (b .n) (at (p .place)) (at i) (s .0) (s .1) (t .0) (t .1) (v .circuits .apart (p .place) i l h)))
+    not-held : (i : ℕ) → i < length cs → heldOnWay (b .n) (take i cs) (at i .way) (endsOf (at i)) (at i .colour) ≡ false
+    unfolding heldOnWay heldIn holds
+    not-held i h =
+        none-some (b .n) (λ link. uses (at i .way) (endsOf (at i)) link && heldIn (take i cs) link (at i .colour)) (λ link l.
+        not-both (uses (at i .way) (endsOf (at i)) link) (heldIn (take i cs) link (at i .colour)) (λ used held.
+        let p : Place (take i cs) (λ c. holds c link (at i .colour)) = some-place (take i cs) (λ c. holds c link (at i .colour)) held in
+        let k : p .place < i = omega (arith, p .below, length-take-le i cs (omega arith)) in
+        let q : holds (at (p .place)) link (at i .colour) ≡ true =
+        sym (ap (λ (c : Circuit). holds c link (at i .colour)) (earlier i (p .place) k)) ∙ p .has in
+        contrary (true-and (eqb (at i .colour) (at i .colour)) (uses (at i .way) (endsOf (at i)) link)
+        (eq-eqb (at i .colour) (at i .colour) refl) used)
+        (v .circuits .apart (p .place) i k h link (at i .colour) l q)))
 
     last-below : (i : ℕ) → i < length cs → lastSerial cs i < at i .serial
     last-below zero h = let g = v .circuits .given 0 h in omega arith
@@ -57,17 +60,19 @@ module _ (b : Book) where
         (true-and _ _
         (true-and _ _ (true-and _ _ (lt-ltb _ _ (e .0)) (lt-ltb _ _ (e .1))) (lt-ltb _ _ k))
         (true-and _ _ (lt-ltb _ _ (last-below i h)) (le-leb _ _ (g .1))))
-        (ap not (no-conflict i h))
+        (ap not (not-held i h))
 
     all-follow : (i : ℕ) → i ≤ length cs → circuitsFit b i ≡ true
     all-follow zero h = refl
-    all-follow (suc i) h = true-and (circuitsFit b i) (mayFollow b (take i cs) (lastSerial cs i) (at i)) (all-follow i (omega arith)) (follows i (omega arith))
+    all-follow (suc i) h =
+        true-and (circuitsFit b i) (mayFollow b (take i cs) (lastSerial cs i) (at i)) (all-follow i (omega arith)) (follows i (omega arith))
 
     pub valid-fits : bookFits b ≡ true
     unfolding bookFits ringFits
     valid-fits =
         true-and _ _
-        (true-and _ _ (true-and _ _ (le-leb _ _ (v .nodes .0)) (le-leb _ _ (v .nodes .1))) (true-and _ _ (le-leb _ _ (v .colours .0)) (le-leb _ _ (v .colours .1))))
+        (true-and _ _ (true-and _ _ (le-leb _ _ (v .nodes .0)) (le-leb _ _ (v .nodes .1)))
+        (true-and _ _ (le-leb _ _ (v .colours .0)) (le-leb _ _ (v .colours .1))))
         (all-follow (length cs) (omega arith))
 
   -- what passes is valid
@@ -88,7 +93,7 @@ module _ (b : Book) where
     pub colour : at i .colour < b .w
     pub above : lastSerial cs i < at i .serial
     pub given : at i .serial ≤ b .grants
-    pub free : conflictIn (take i cs) (at i .way) (endsOf (at i)) (at i .colour) ≡ false
+    pub free : heldOnWay (b .n) (take i cs) (at i .way) (endsOf (at i)) (at i .colour) ≡ false
 
   pub following : (i : ℕ) → mayFollow b (take i cs) (lastSerial cs i) (at i) ≡ true → Following i
   unfolding mayFollow circuitFits serialFits
@@ -119,12 +124,21 @@ module _ (b : Book) where
               subst (λ (m : ℕ). at m .serial < at (suc j) .serial) q f
         ]
 
-    free-pair : (i j : ℕ) → i < j → j < length cs → conflicts (at i) (at j .way) (endsOf (at j)) (at j .colour) ≡ false
-    unfolding conflictIn
-    free-pair i j h k =
-        never (conflicts (at i) (at j .way) (endsOf (at j)) (at j .colour)) (λ e.
-        let l : i < length (take j cs) = omega (arith, length-take-le j cs (omega arith)) in
-        contrary (place-some (take j cs) (λ c. conflicts c (at j .way) (endsOf (at j)) (at j .colour)) i l (ap (λ (c : Circuit). conflicts c (at j .way) (endsOf (at j)) (at j .colour)) (earlier j i h) ∙ e)) (few j k .free))
+    -- what an earlier circuit holds, a later one does not
+    apart : (i j : ℕ) → i < j → j < length cs → (link colour : ℕ) → link < b .n → holds (at i) link colour ≡ true
+        → holds (at j) link colour ≡ false
+    unfolding heldOnWay heldIn holds
+    apart i j h k link colour l e =
+        never (holds (at j) link colour) (λ f.
+        let q = and-true (eqb (at j .colour) colour) (uses (at j .way) (endsOf (at j)) link) f in
+        let same : colour ≡ at j .colour = sym (eqb-true (at j .colour) colour (q .0)) in
+        let there : i < length (take j cs) = omega (arith, length-take-le j cs (omega arith)) in
+        let held : heldIn (take j cs) link (at j .colour) ≡ true =
+        place-some (take j cs) (λ c. holds c link (at j .colour)) i there (ap (λ (c : Circuit). holds c link (at j .colour)) (earlier j i h)
+        ∙ subst (λ (x : ℕ). holds (at i) link x ≡ true) same e) in
+        contrary (found-some (b .n) (λ x. uses (at j .way) (endsOf (at j)) x && heldIn (take j cs) x (at j .colour)) link l
+        (true-and (uses (at j .way) (endsOf (at j)) link) (heldIn (take j cs) link (at j .colour)) (q .1) held))
+        (few j k .free))
 
     pub valid-circuits : length cs ≤ 512 → ValidCircuits (b .n) (b .w) (b .grants) cs
     valid-circuits room =
@@ -134,9 +148,7 @@ module _ (b : Book) where
           rising = rises;
           ends = λ i h. (few i h .ordered, few i h .nodes);
           colours = λ i h. few i h .colour;
-          apart = λ i j h k.
-              let l : i < length cs = omega arith in
-              conflict-links (b .n) (at i) (at j) (few i l .ordered) (few i l .nodes) (few j k .ordered) (few j k .nodes) (free-pair i j h k);
+          apart = apart;
         }
 
   pub fits-valid : bookFits b ≡ true → b ≡ bookOf (b .n) (b .w) (b .grants) cs → length cs ≤ 512 → b .grants ≤ 65535 → Valid b

@@ -1,5 +1,5 @@
 -- The laws that the functions' proofs cite, and the theorems whose statements stand in specs/:
--- Promised (ReadsBack, LoadsOnlyForms, CaseT8, CaseT9), Changes (ChangeRefused).
+-- Promised (ReadsBack, LoadsOnlyForms), Changes (ChangeRefused), StoredHistories.
 pub mod Lists
 pub mod Tables
 pub mod Checks
@@ -12,9 +12,9 @@ pub mod FitLaws
 pub mod LoadLaws
 pub mod BlockReading
 pub mod RoundTrip
-pub mod Conflicting
 pub mod Fitting
 pub mod Promised
 pub mod Bytes
 pub mod CheckChanges
 pub mod Changes
+pub mod StoredHistories

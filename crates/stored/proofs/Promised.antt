@@ -11,20 +11,23 @@ use Rattle.ring.proofs.FateLaws.{number-within}
 use Rattle.book.specs.declared.books.Book.{Book}
 use Rattle.book.specs.Circuits.{circuit}
 use Rattle.book.specs.Books.{liveOf, bookOf, Valid}
-use Rattle.book.proofs.ConflictLaws.{and-true, true-and}
+use Rattle.ring.proofs.Cases.{and-true}
+use Rattle.book.proofs.ConflictLaws.{true-and}
 use Rattle.book.proofs.Forms.{live-form}
 use Rattle.stored.specs.declared.loads.LoadAnswer.the-variants as answer
 use Rattle.stored.specs.declared.loads.Loaded.{Loaded}
-use Rattle.stored.specs.Blocks.{word, wordAt, checkOf}
+use Rattle.stored.specs.Blocks.{word, wordAt}
 use Rattle.stored.specs.Forms.{blockCount, storedForm}
 use Rattle.stored.specs.Storing.{lengthOf}
 use Rattle.stored.specs.Reading.{partOf, blocksRight, circuitsIn, bookIn}
 use Rattle.stored.specs.Validity.{bookFits}
-use Rattle.stored.specs.Loading.{lengthWrong, sameBytes, formRight}
-use Rattle.stored.specs.Promises.{ReadsBack, IsForm, LoadsOnlyForms, CaseT8, CaseT9}
+use Rattle.ring.specs.Buffers.{sameBytes}
+use Rattle.stored.specs.Loading.{lengthWrong, formRight}
+use Rattle.stored.specs.Promises.{ReadsBack, IsForm, LoadsOnlyForms}
 use Rattle.stored.proofs.StoreLaws.{form-length}
 use Rattle.stored.proofs.ReadLaws.{circuits-few}
-use Rattle.stored.proofs.LoadLaws.{same-refl, same-equal, load-good, load-told}
+use Rattle.ring.proofs.BufferLaws.{same-refl, same-equal}
+use Rattle.stored.proofs.LoadLaws.{load-good, load-told}
 use Rattle.stored.proofs.BlockReading.{Fields}
 use Rattle.stored.proofs.RoundTrip.{form-right, header-cells, book-back}
 use Rattle.stored.proofs.Fitting.{valid-fits, fits-valid}
@@ -79,12 +82,16 @@ reads-back b v =
 module _ (bytes : List ℕ) where
   form-is : bookIn bytes ≡ bookOf (bookIn bytes .n) (bookIn bytes .w) (bookIn bytes .grants) (liveOf (bookIn bytes))
   unfolding bookIn
-  form-is = ap (bookOf (wordAt (partOf bytes 0) 0) (wordAt (partOf bytes 0) 2) (wordAt (partOf bytes 0) 4)) (sym (live-form (wordAt (partOf bytes 0) 0) (wordAt (partOf bytes 0) 2) (wordAt (partOf bytes 0) 4) (circuitsIn bytes (min 512 (wordAt (partOf bytes 0) 6)) (length bytes / 512 - 1))))
+  form-is = ap (bookOf (wordAt (partOf bytes 0) 0) (wordAt (partOf bytes 0) 2) (wordAt (partOf bytes 0) 4))
+      (sym (live-form (wordAt (partOf bytes 0) 0) (wordAt (partOf bytes 0) 2) (wordAt (partOf bytes 0) 4)
+      (circuitsIn bytes (min 512 (wordAt (partOf bytes 0) 6)) (length bytes / 512 - 1))))
 
   room-is : length (liveOf (bookIn bytes)) ≤ 512
   unfolding bookIn
   room-is =
-      let e : length (liveOf (bookIn bytes)) ≡ length (circuitsIn bytes (min 512 (wordAt (partOf bytes 0) 6)) (length bytes / 512 - 1)) = ap length (live-form (wordAt (partOf bytes 0) 0) (wordAt (partOf bytes 0) 2) (wordAt (partOf bytes 0) 4) (circuitsIn bytes (min 512 (wordAt (partOf bytes 0) 6)) (length bytes / 512 - 1))) in
+      let e : length (liveOf (bookIn bytes)) ≡ length (circuitsIn bytes (min 512 (wordAt (partOf bytes 0) 6)) (length bytes / 512 - 1)) =
+      ap length (live-form (wordAt (partOf bytes 0) 0) (wordAt (partOf bytes 0) 2) (wordAt (partOf bytes 0) 4)
+      (circuitsIn bytes (min 512 (wordAt (partOf bytes 0) 6)) (length bytes / 512 - 1))) in
       omega (arith, circuits-few bytes (min 512 (wordAt (partOf bytes 0) 6)) (length bytes / 512 - 1))
 
   grants-are : bookIn bytes .grants ≡ wordAt (partOf bytes 0) 4
@@ -95,7 +102,9 @@ module _ (bytes : List ℕ) where
   few-are e =
       let g = bookIn bytes .grants in
       let h : bookIn bytes .grants ≡ g % 256 + 256 * (g / 256 % 256) =
-      grants-are ∙ ap (λ (l : List ℕ). wordAt (partOf l 0) 4) e ∙ header-cells (bookIn bytes) (bookIn bytes .grants) (word (bookIn bytes .n) ++ word (bookIn bytes .w)) (word (length (liveOf (bookIn bytes)))) refl
+      grants-are ∙ ap (λ (l : List ℕ). wordAt (partOf l 0) 4) e
+      ∙ header-cells (bookIn bytes) (bookIn bytes .grants) (word (bookIn bytes .n) ++ word (bookIn bytes .w))
+      (word (length (liveOf (bookIn bytes)))) refl
       in
       omega arith
 
@@ -110,11 +119,3 @@ pub loads-only-forms : LoadsOnlyForms
 loads-only-forms bytes e =
     let t = load-told bytes e in
     subst (IsForm bytes) (sym (t .1)) (form-told bytes (t .0))
-
--- the cases
-pub t8 : CaseT8
-unfolding checkOf
-t8 = refl
-
-pub t9 : CaseT9
-t9 = record { none = refl; one = refl; block = refl; more = refl; all = refl }

@@ -16,7 +16,8 @@ use Rattle.book.specs.Circuits.{vacant}
 use Rattle.book.specs.Books.{liveOf, bookOf}
 use Rattle.book.proofs.Forms.{live-form}
 use Rattle.stored.specs.Blocks.{wordAt, checkOf}
-use Rattle.stored.specs.Reading.{partOf, blockRight, blocksRight, circuitFrom, circuitAt, recordsIn, circuitsIn, extended}
+use Rattle.stored.specs.Reading.{partOf, blockRight, blocksRight, circuitFrom, circuitAt, recordsIn, circuitsIn}
+use Rattle.stored.specs.Internal.Handing.{extended}
 
 -- the part that the code hands on
 pub part-is : (bytes : List ℕ) (k : ℕ) → take (k * 512 + 512 - k * 512) (drop (k * 512) bytes) ≡ partOf bytes k
@@ -24,7 +25,8 @@ part-is bytes k =
     let e : k * 512 + 512 - k * 512 ≡ 512 = omega arith in
     ap (λ (n : ℕ). take n (drop (k * 512) bytes)) e
 
-pub right-steps : (block : List ℕ) (number x y z : ℕ) (r : Bool) → x ≡ wordAt block 508 → y ≡ wordAt block 510 → z ≡ checkOf block → r ≡ (eqb x number && eqb y z) → r ≡ blockRight number block
+pub right-steps : (block : List ℕ) (number x y z : ℕ) (r : Bool) → x ≡ wordAt block 508 → y ≡ wordAt block 510 → z ≡ checkOf block
+    → r ≡ (eqb x number && eqb y z) → r ≡ blockRight number block
 unfolding blockRight
 right-steps block number x y z r e f g h =
     h
@@ -32,14 +34,17 @@ right-steps block number x y z r e f g h =
     ∙ ap (λ (k : ℕ). eqb (wordAt block 508) number && eqb k z) f
     ∙ ap (λ (k : ℕ). eqb (wordAt block 508) number && eqb (wordAt block 510) k) g
 
-pub right-next : (bytes part : List ℕ) (k number : ℕ) (so-far one all : Bool) → so-far ≡ blocksRight bytes k → part ≡ partOf bytes k → number ≡ k → one ≡ blockRight number part → all ≡ (so-far && one) → all ≡ blocksRight bytes (k + 1)
+pub right-next : (bytes part : List ℕ) (k number : ℕ) (so-far one all : Bool) → so-far ≡ blocksRight bytes k → part ≡ partOf bytes k
+    → number ≡ k → one ≡ blockRight number part → all ≡ (so-far && one) → all ≡ blocksRight bytes (k + 1)
 right-next bytes part k number so-far one all e p n h r =
     r
     ∙ ap (λ (t : Bool). t && one) e
-    ∙ ap (λ (t : Bool). blocksRight bytes k && t) (h ∙ ap (λ (l : List ℕ). blockRight number l) p ∙ ap (λ (j : ℕ). blockRight j (partOf bytes k)) n)
+    ∙ ap (λ (t : Bool). blocksRight bytes k && t) (h ∙ ap (λ (l : List ℕ). blockRight number l) p
+    ∙ ap (λ (j : ℕ). blockRight j (partOf bytes k)) n)
     ∙ ap (blocksRight bytes) (sym (add-one k))
 
-pub circuit-steps : (block : List ℕ) (at serial a b word : ℕ) (fate : Fate) → serial ≡ wordAt block at → a ≡ wordAt block (at + 2) → b ≡ wordAt block (at + 4) → word ≡ wordAt block (at + 6) → fate ≡ fateOf word
+pub circuit-steps : (block : List ℕ) (at serial a b word : ℕ) (fate : Fate) → serial ≡ wordAt block at → a ≡ wordAt block (at + 2)
+    → b ≡ wordAt block (at + 4) → word ≡ wordAt block (at + 6) → fate ≡ fateOf word
     → circuitFrom serial a b fate ≡ circuitAt block at
 unfolding circuitAt
 circuit-steps block at serial a b word fate e₁ e₂ e₃ e₄ f =
@@ -56,7 +61,8 @@ records-in-length block (suc i) =
 
 -- a circuit put behind the live ones
 pub book-append : (n w g : ℕ) (cs : List Circuit) (c : Circuit) (k : ℕ) → k ≡ length cs → length cs < 512
-    → _≡_ {A = Book} (record { n = n; w = w; grants = g; live = k + 1; places = set (cs ++ replicate (512 - length cs) vacant) k c }) (bookOf n w g (cs ++ (c ∷ [])))
+    → _≡_ {A = Book} (record { n = n; w = w; grants = g; live = k + 1; places = set (cs ++ replicate (512 - length cs) vacant) k c })
+    (bookOf n w g (cs ++ (c ∷ [])))
 book-append n w g cs c k e h =
     let l : length (cs ++ (c ∷ [])) ≡ length cs + 1 = length-append cs (c ∷ []) in
     let m : 512 - length cs ≡ suc (512 - length (cs ++ (c ∷ []))) = omega (arith, l) in
@@ -68,7 +74,14 @@ book-append n w g cs c k e h =
     in
     let q : k + 1 ≡ length (cs ++ (c ∷ [])) = omega arith in
     ap (λ (ps : List Circuit). record { n = n; w = w; grants = g; live = k + 1; places = ps }) p
-    ∙ ap (λ (j : ℕ). record { n = n; w = w; grants = g; live = j; places = (cs ++ (c ∷ [])) ++ replicate (512 - length (cs ++ (c ∷ []))) vacant }) q
+    ∙ ap (λ (j : ℕ). record {
+      n = n;
+      w = w;
+      grants = g;
+      live = j;
+      places =
+          (cs ++ (c ∷ [])) ++ replicate (512 - length (cs ++ (c ∷ []))) vacant;
+    }) q
 
 module _ (b : Book) (block : List ℕ) where
   pub extended-none : b ≡ extended b [] → b ≡ extended b (recordsIn block 0)
@@ -77,21 +90,51 @@ module _ (b : Book) (block : List ℕ) where
   extended-length : (i : ℕ) → length (liveOf b ++ recordsIn block i) ≡ length (liveOf b) + i
   extended-length i = length-append (liveOf b) (recordsIn block i) ∙ ap (λ (j : ℕ). length (liveOf b) + j) (records-in-length block i)
 
-  pub extended-next : (filled : Book) (first i live : ℕ) (c : Circuit) → filled ≡ extended b (recordsIn block i) → first ≡ length (liveOf b) → first + i < 512 → live ≡ first + i + 1 → c ≡ circuitAt block (8 * i)
-      → _≡_ {A = Book} (record { n = filled .n; w = filled .w; grants = filled .grants; live = live; places = set (filled .places) (first + i) c }) (extended b (recordsIn block (i + 1)))
+  pub extended-next : (filled : Book) (first i live : ℕ) (c : Circuit) → filled ≡ extended b (recordsIn block i) → first ≡ length (liveOf b)
+      → first + i < 512 → live ≡ first + i + 1 → c ≡ circuitAt block (8 * i)
+      → _≡_ {A = Book} (record {
+        n = filled .n;
+        w = filled .w;
+        grants = filled .grants;
+        live = live;
+        places =
+            set (filled .places) (first + i) c;
+      }) (extended b (recordsIn block (i + 1)))
   extended-next filled first i live c e f h l q =
       ap (λ (x : Book). record { n = x .n; w = x .w; grants = x .grants; live = live; places = set (x .places) (first + i) c }) e
-      ∙ ap (λ (j : ℕ). record { n = b .n; w = b .w; grants = b .grants; live = j; places = set (extended b (recordsIn block i) .places) (first + i) c }) l
-      ∙ ap (λ (x : Circuit). record { n = b .n; w = b .w; grants = b .grants; live = first + i + 1; places = set (extended b (recordsIn block i) .places) (first + i) x }) q
-      ∙ book-append (b .n) (b .w) (b .grants) (liveOf b ++ recordsIn block i) (circuitAt block (8 * i)) (first + i) (omega (arith, extended-length i)) (omega (arith, extended-length i))
-      ∙ ap (bookOf (b .n) (b .w) (b .grants)) (append-assoc (liveOf b) (recordsIn block i) (circuitAt block (8 * i) ∷ []) ∙ ap (λ (j : ℕ). liveOf b ++ recordsIn block j) (sym (add-one i)))
+      ∙ ap (λ (j : ℕ). record {
+        n = b .n;
+        w = b .w;
+        grants = b .grants;
+        live = j;
+        places =
+            set (extended b (recordsIn block i) .places) (first + i) c;
+      }) l
+      ∙ ap (λ (x : Circuit).
+      record {
+        n = b .n;
+        w = b .w;
+        grants = b .grants;
+        live = first + i + 1;
+        places =
+            set (extended b (recordsIn block i) .places) (first + i) x;
+      }) q
+      ∙ book-append (b .n) (b .w) (b .grants) (liveOf b ++ recordsIn block i) (circuitAt block (8 * i)) (first + i)
+      (omega (arith, extended-length i)) (omega (arith, extended-length i))
+      ∙ ap (bookOf (b .n) (b .w) (b .grants)) (append-assoc (liveOf b) (recordsIn block i) (circuitAt block (8 * i) ∷ [])
+      ∙ ap (λ (j : ℕ). liveOf b ++ recordsIn block j) (sym (add-one i)))
 
 -- a book that was read so far, and one block more
 pub circuits-few : (bytes : List ℕ) (live k : ℕ) → length (circuitsIn bytes live k) ≤ live
 circuits-few bytes live zero = omega arith
 circuits-few bytes live (suc k) =
     let h : length (circuitsIn bytes live k) ≤ live = circuits-few bytes live k in
-    omega (arith, length-append (circuitsIn bytes live k) (recordsIn (partOf bytes (suc k)) (min 63 (live - length (circuitsIn bytes live k)))), records-in-length (partOf bytes (suc k)) (min 63 (live - length (circuitsIn bytes live k))))
+    omega (
+      arith,
+      length-append (circuitsIn bytes live k)
+          (recordsIn (partOf bytes (suc k)) (min 63 (live - length (circuitsIn bytes live k)))),
+      records-in-length (partOf bytes (suc k)) (min 63 (live - length (circuitsIn bytes live k))),
+    )
 
 pub form-of : (b : Book) (n w g : ℕ) (cs : List Circuit) → b ≡ bookOf n w g cs → b ≡ extended b []
 form-of b n w g cs e =
@@ -102,7 +145,8 @@ form-of b n w g cs e =
 pub live-of : (b : Book) (n w g : ℕ) (cs : List Circuit) → b ≡ bookOf n w g cs → liveOf b ≡ cs
 live-of b n w g cs e = ap liveOf e ∙ live-form n w g cs
 
-pub read-next : (bytes part : List ℕ) (live n w g k : ℕ) (b r : Book) → 1 ≤ k → b ≡ bookOf n w g (circuitsIn bytes live (k - 1)) → part ≡ partOf bytes k
+pub read-next : (bytes part : List ℕ) (live n w g k : ℕ) (b r : Book) → 1 ≤ k → b ≡ bookOf n w g (circuitsIn bytes live (k - 1))
+    → part ≡ partOf bytes k
     → r ≡ extended b (recordsIn part (min 63 (live - length (liveOf b)))) → r ≡ bookOf n w g (circuitsIn bytes live k)
 read-next bytes part live n w g zero b r h e p q = absurd (omega arith)
 read-next bytes part live n w g (suc k) b r h e p q =
@@ -111,7 +155,8 @@ read-next bytes part live n w g (suc k) b r h e p q =
     q
     ∙ ap (λ (l : List ℕ). extended b (recordsIn l (min 63 (live - length (liveOf b))))) p
     ∙ ap (λ (x : Book). extended x (recordsIn (partOf bytes (suc k)) (min 63 (live - length (liveOf x))))) f
-    ∙ ap (λ (cs : List Circuit). bookOf n w g (cs ++ recordsIn (partOf bytes (suc k)) (min 63 (live - length cs)))) (live-form n w g (circuitsIn bytes live k))
+    ∙ ap (λ (cs : List Circuit). bookOf n w g (cs ++ recordsIn (partOf bytes (suc k)) (min 63 (live - length cs))))
+    (live-form n w g (circuitsIn bytes live k))
 
 pub blank-steps : (r : Book) (x y z n w g : ℕ) → r ≡ bookOf x y z [] → x ≡ n → y ≡ w → z ≡ g → r ≡ bookOf n w g []
 blank-steps r x y z n w g h e f k =

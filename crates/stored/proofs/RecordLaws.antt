@@ -10,7 +10,9 @@ use Rattle.book.specs.declared.circuits.Circuit.{Circuit}
 use Rattle.book.specs.declared.books.Book.{Book}
 use Rattle.book.specs.Circuits.{vacant}
 use Rattle.book.specs.Books.{liveOf}
-use Rattle.stored.specs.Blocks.{written, blockOf, sealed}
+use Rattle.ring.specs.Buffers.{written}
+use Rattle.stored.specs.Blocks.{blockOf}
+use Rattle.stored.specs.Internal.Handing.{sealed}
 use Rattle.stored.specs.Forms.{recordBytes, recordsBytes, circuitsOf, contents}
 use Rattle.stored.proofs.Lists.{pad, pad-written}
 use Rattle.stored.proofs.BlockLaws.{sealed-pad}
@@ -25,11 +27,15 @@ records-length (c ∷ xs) =
     let h : length (recordsBytes xs) ≡ 8 * length xs = records-length xs in
     omega arith
 
-pub records-next : (rs : List Circuit) (i : ℕ) → i < length rs → recordsBytes (take i rs) ++ recordBytes (getD rs i vacant) ≡ recordsBytes (take (i + 1) rs)
-records-next rs i h = sym (ap (λ (k : ℕ). recordsBytes (take k rs)) (add-one i) ∙ ap recordsBytes (take-suc rs i vacant h) ∙ records-append (take i rs) (getD rs i vacant ∷ []))
+pub records-next : (rs : List Circuit) (i : ℕ) → i < length rs
+    → recordsBytes (take i rs) ++ recordBytes (getD rs i vacant) ≡ recordsBytes (take (i + 1) rs)
+records-next rs i h =
+    sym (ap (λ (k : ℕ). recordsBytes (take k rs)) (add-one i) ∙ ap recordsBytes (take-suc rs i vacant h)
+    ∙ records-append (take i rs) (getD rs i vacant ∷ []))
 
 -- one record more in a block
-pub record-next : (rs : List Circuit) (i : ℕ) (block : List ℕ) → i < length rs → length rs ≤ 63 → block ≡ pad (recordsBytes (take i rs)) → written block (8 * i) (recordBytes (getD rs i vacant)) ≡ pad (recordsBytes (take (i + 1) rs))
+pub record-next : (rs : List Circuit) (i : ℕ) (block : List ℕ) → i < length rs → length rs ≤ 63 → block ≡ pad (recordsBytes (take i rs))
+    → written block (8 * i) (recordBytes (getD rs i vacant)) ≡ pad (recordsBytes (take (i + 1) rs))
 record-next rs i block h few e =
     let k : length (recordsBytes (take i rs)) ≡ 8 * i = omega (arith, records-length (take i rs), length-take-le i rs (omega arith)) in
     ap (λ (l : List ℕ). written l (8 * i) (recordBytes (getD rs i vacant))) e
@@ -37,7 +43,8 @@ record-next rs i block h few e =
     ∙ ap pad (records-next rs i h)
 
 -- all of them
-pub records-sealed : (number : ℕ) (rs : List Circuit) (i : ℕ) (block : List ℕ) → length rs ≤ i → length rs ≤ 63 → block ≡ pad (recordsBytes (take i rs)) → sealed number block ≡ blockOf number (recordsBytes rs)
+pub records-sealed : (number : ℕ) (rs : List Circuit) (i : ℕ) (block : List ℕ) → length rs ≤ i → length rs ≤ 63
+    → block ≡ pad (recordsBytes (take i rs)) → sealed number block ≡ blockOf number (recordsBytes rs)
 records-sealed number rs i block h few e =
     ap (sealed number) (e ∙ ap (λ (xs : List Circuit). pad (recordsBytes xs)) (take-all i rs h))
     ∙ sealed-pad number (recordsBytes rs) (omega (arith, records-length rs))

@@ -41,11 +41,13 @@ module _ (b : Book) where
   form-length = blocks-length (blockCount (length (liveOf b)))
 
   -- block 0
-  pub first-block : (live : ℕ) (front : List ℕ) → live ≡ length (liveOf b) → front ≡ blockOf 0 (word (b .n) ++ (word (b .w) ++ (word (b .grants) ++ word live))) → front ≡ blocks b 1
+  pub first-block : (live : ℕ) (front : List ℕ) → live ≡ length (liveOf b)
+      → front ≡ blockOf 0 (word (b .n) ++ (word (b .w) ++ (word (b .grants) ++ word live))) → front ≡ blocks b 1
   first-block live front e h = h ∙ ap (λ (x : ℕ). blockOf 0 (word (b .n) ++ (word (b .w) ++ (word (b .grants) ++ word x)))) e
 
   pub started : (front rest : List ℕ) → front ≡ blocks b 1 → front ++ rest ≡ blocks b 1 ++ drop 512 (front ++ rest)
-  started front rest e = ap (λ (l : List ℕ). l ++ rest) e ∙ ap (λ (l : List ℕ). blocks b 1 ++ l) (sym (drop-at front rest 512 (ap length e ∙ blocks-length 1)))
+  started front rest e = ap (λ (l : List ℕ). l ++ rest) e
+      ∙ ap (λ (l : List ℕ). blocks b 1 ++ l) (sym (drop-at front rest 512 (ap length e ∙ blocks-length 1)))
 
   -- one block more
   pub block-next : (buffer old new : List ℕ) (k : ℕ) → buffer ≡ blocks b k ++ drop (512 * k) old → new ≡ blockOf k (contents b k)
@@ -55,7 +57,8 @@ module _ (b : Book) where
       let m : k * 512 + 512 - k * 512 ≡ 512 = omega arith in
       let n : 512 * k + 512 ≡ 512 * (k + 1) = omega arith in
       ap (λ (l : List ℕ). putMid (k * 512) (k * 512 + 512 - k * 512) l new) e
-      ∙ ap (λ (l : List ℕ). l ++ (new ++ drop (k * 512 + 512 - k * 512) (drop (k * 512) (blocks b k ++ drop (512 * k) old)))) (take-at (blocks b k) (drop (512 * k) old) (k * 512) p)
+      ∙ ap (λ (l : List ℕ). l ++ (new ++ drop (k * 512 + 512 - k * 512) (drop (k * 512) (blocks b k ++ drop (512 * k) old))))
+      (take-at (blocks b k) (drop (512 * k) old) (k * 512) p)
       ∙ ap (λ (l : List ℕ). blocks b k ++ (new ++ drop (k * 512 + 512 - k * 512) l)) (drop-at (blocks b k) (drop (512 * k) old) (k * 512) p)
       ∙ ap (λ (j : ℕ). blocks b k ++ (new ++ drop j (drop (512 * k) old))) m
       ∙ ap (λ (l : List ℕ). blocks b k ++ (new ++ l)) (drop-drop 512 (512 * k) old ∙ ap (λ (j : ℕ). drop j old) n)
@@ -64,9 +67,13 @@ module _ (b : Book) where
       ∙ ap (λ (j : ℕ). blocks b j ++ drop (512 * (k + 1)) old) (sym (add-one k))
 
   -- the answers
-  pub store-short : (buffer : List ℕ) → length buffer < lengthOf b → (Refused BufferShort ≡ storeAnswer b buffer) × (buffer ≡ afterStore b buffer)
+  pub store-short : (buffer : List ℕ) → length buffer < lengthOf b
+      → (Refused BufferShort ≡ storeAnswer b buffer) × (buffer ≡ afterStore b buffer)
   unfolding storeAnswer afterStore
-  store-short buffer h = (sym (ap (λ (t : Bool). cond t (Refused BufferShort) (Stored (lengthOf b))) (lt-ltb _ _ h)), sym (ap (λ (t : Bool). cond t buffer (storedForm b ++ drop (lengthOf b) buffer)) (lt-ltb _ _ h)))
+  store-short buffer h = (
+    sym (ap (λ (t : Bool). cond t (Refused BufferShort) (Stored (lengthOf b))) (lt-ltb _ _ h)),
+    sym (ap (λ (t : Bool). cond t buffer (storedForm b ++ drop (lengthOf b) buffer)) (lt-ltb _ _ h)),
+  )
 
   pub store-answer : (buffer : List ℕ) (n : ℕ) → n ≡ lengthOf b → lengthOf b ≤ length buffer → Stored n ≡ storeAnswer b buffer
   unfolding storeAnswer
@@ -80,7 +87,8 @@ module _ (b : Book) where
       let m : 512 + (512 * k - 512) ≡ 512 * k = omega arith in
       g
       ∙ ap (λ (j : ℕ). blocks b k ++ drop j (front ++ drop 512 old)) n
-      ∙ ap (λ (l : List ℕ). blocks b k ++ l) (drop-append-add front (drop 512 old) (512 * k - 512) ∙ drop-drop (512 * k - 512) 512 old ∙ ap (λ (j : ℕ). drop j old) m)
+      ∙ ap (λ (l : List ℕ). blocks b k ++ l) (drop-append-add front (drop 512 old) (512 * k - 512) ∙ drop-drop (512 * k - 512) 512 old
+      ∙ ap (λ (j : ℕ). drop j old) m)
       ∙ ap (λ (j : ℕ). blocks b j ++ drop (512 * j) old) e
       ∙ sym (ap (λ (t : Bool). cond t old (storedForm b ++ drop (lengthOf b) old)) (le-ltb _ _ h))
 
@@ -89,7 +97,8 @@ module _ (b : Book) where
   store-copied old h = ap (λ (t : Bool). cond t old (storedForm b ++ drop (lengthOf b) old)) (le-ltb _ _ h)
 
   -- the front of a buffer that is long enough
-  pub store-front : (copy old : List ℕ) (n : ℕ) → n ≡ lengthOf b → lengthOf b ≤ length old → copy ≡ afterStore b old → take (n - 0) copy ≡ storedForm b
+  pub store-front : (copy old : List ℕ) (n : ℕ) → n ≡ lengthOf b → lengthOf b ≤ length old → copy ≡ afterStore b old
+      → take (n - 0) copy ≡ storedForm b
   store-front copy old n e h g =
       let m : n - 0 ≡ lengthOf b = omega arith in
       ap (λ (l : List ℕ). take (n - 0) l) (g ∙ store-copied old h)

@@ -1,7 +1,7 @@
 -- Blocks: bytes in their places, block numbers and checks.
 use Prim.Native.Nat.{ℕ, _+_, _-_, _*_, _/_, _%_}
 use mathlib.Core.List.{List, [], _∷_, _++_}
-use lib.ListN.{length, getD, take, drop, replicate}
+use lib.ListN.{length, getD, take, replicate}
 
 -- "numbers are 16 bits, low byte first"
 abbrev pub word : ℕ → List ℕ
@@ -10,10 +10,6 @@ word x = x % 256 ∷ x / 256 % 256 ∷ []
 -- the number whose low byte stands at a position
 abbrev pub wordAt : List ℕ → ℕ → ℕ
 wordAt bytes at = getD bytes at 0 + 256 * getD bytes (at + 1) 0
-
--- the bytes with others put in their place, from a position on
-abbrev pub written : List ℕ → ℕ → List ℕ → List ℕ
-written bytes at new = (take at bytes ++ new) ++ drop (at + length new) bytes
 
 -- each byte "times its position plus one, summed", where the first stands at position i
 abbrev pub weighted : ℕ → List ℕ → ℕ
@@ -31,7 +27,3 @@ numbered k contents = (contents ++ replicate (508 - length contents) 0) ++ word 
 -- "Bytes 510 and 511 are the check"
 unfoldable pub blockOf : ℕ → List ℕ → List ℕ
 blockOf k contents = numbered k contents ++ word (checkOf (numbered k contents))
-
--- 512 bytes with their block number and their check: what the code computes
-unfoldable pub sealed : ℕ → List ℕ → List ℕ
-sealed k bytes = written (written bytes 508 (word k)) 510 (word (checkOf (written bytes 508 (word k))))

@@ -1,9 +1,10 @@
--- The sentences of document 01 on the stored form, store and load, in its order. `Following` is for the contracts of functions inside.
+-- The rules on the stored form, store and load, in their order, and what is promised of them.
 pub mod Blocks
 pub mod Forms
 pub mod Storing
 pub mod Reading
 pub mod Validity
-pub mod Following
 pub mod Loading
 pub mod Promises
+pub mod Histories
+pub mod Internal

@@ -1,15 +1,14 @@
 -- What store and load promise together.
 use Prim.Native.Nat.{ℕ, _<_}
 use mathlib.Core.Path.{_≡_}
-use mathlib.Core.List.{List, [], _∷_, _++_}
-use lib.ListN.{length, getD, set, replicate}
+use mathlib.Core.List.{List, []}
+use lib.ListN.{length, getD, set}
 use Rattle.ring.specs.declared.refusals.Refusal.the-variants.{BlockCheck}
 use Rattle.book.specs.declared.books.Book.{Book}
 use Rattle.book.specs.Books.{bookOf, Valid}
 use Rattle.stored.specs.declared.loads.LoadAnswer.the-variants as answer
 use Rattle.stored.specs.declared.loads.Loaded.{Loaded}
-use Rattle.stored.specs.Blocks.{checkOf}
-use Rattle.stored.specs.Forms.{storedLength, storedForm}
+use Rattle.stored.specs.Forms.{storedForm}
 use Rattle.stored.specs.Loading.{loaded}
 
 -- a stored book reads back as itself
@@ -29,15 +28,3 @@ LoadsOnlyForms = (bytes : List ℕ) → loaded bytes .answer ≡ answer.Loaded �
 abbrev pub ChangeRefused : Type 0
 ChangeRefused = (b : Book) → Valid b → (i x : ℕ) → i < length (storedForm b) → x < 256 → (x ≡ getD (storedForm b) i 0 → ⊥)
     → loaded (set (storedForm b) i x) ≡ record { answer = answer.Refused BlockCheck; book = bookOf 0 0 0 [] }
-
--- "T8 a block zero but for byte 509, value 129: check 269."
-abbrev pub CaseT8 : Type 0
-CaseT8 = checkOf (replicate 509 0 ++ (129 ∷ 0 ∷ 0 ∷ [])) ≡ 269
-
--- "T9 lengths: live 0 is 512; 1 and 63 are 1,024; 64 is 1,536; 512 is 5,120."
-pub record CaseT9 : Type 0 where
-  pub none : storedLength 0 ≡ 512
-  pub one : storedLength 1 ≡ 1024
-  pub block : storedLength 63 ≡ 1024
-  pub more : storedLength 64 ≡ 1536
-  pub all : storedLength 512 ≡ 5120

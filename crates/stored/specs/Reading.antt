@@ -1,6 +1,5 @@
 -- What stored bytes tell: blocks, records, a book.
-use Prim.Native.Nat.{ℕ, zero, suc, _+_, _-_, _*_, _/_, _≤_, min}
-use mathlib.Core.Path.{_≡_}
+use Prim.Native.Nat.{ℕ, zero, suc, _+_, _-_, _*_, _/_, min}
 use mathlib.Core.Bool.{Bool, true, _&&_}
 use mathlib.Core.List.{List, [], _∷_, _++_}
 use lib.Dec.{eqb}
@@ -11,7 +10,7 @@ use Rattle.ring.specs.Fates.{fateOf}
 use Rattle.book.specs.declared.circuits.Circuit.{Circuit}
 use Rattle.book.specs.declared.books.Book.{Book}
 use Rattle.book.specs.Circuits.{vacant}
-use Rattle.book.specs.Books.{liveOf, bookOf}
+use Rattle.book.specs.Books.{bookOf}
 use Rattle.stored.specs.Blocks.{wordAt, checkOf}
 
 -- "Each later block is read from its own place in the buffer"
@@ -52,15 +51,5 @@ circuitsIn bytes live (suc k) = readOn live (circuitsIn bytes live k) (partOf by
 
 -- the book that the bytes tell; of more than 512 live circuits the first 512
 unfoldable pub bookIn : List ℕ → Book
-bookIn bytes = bookOf (wordAt (partOf bytes 0) 0) (wordAt (partOf bytes 0) 2) (wordAt (partOf bytes 0) 4) (circuitsIn bytes (min 512 (wordAt (partOf bytes 0) 6)) (length bytes / 512 - 1))
-
--- a book with further circuits behind the live ones
-abbrev pub extended : Book → List Circuit → Book
-extended b cs = bookOf (b .n) (b .w) (b .grants) (liveOf b ++ cs)
-
--- what the reader of a later block is handed: 512 bytes, and a book in its form with room for the circuits that are left
-pub record ReadRoom (block : List ℕ) (b : Book) (live : ℕ) : Type 0 where
-  pub size : length block ≡ 512
-  pub form : b ≡ extended b []
-  pub some : length (liveOf b) ≤ live
-  pub most : live ≤ 512
+bookIn bytes = bookOf (wordAt (partOf bytes 0) 0) (wordAt (partOf bytes 0) 2) (wordAt (partOf bytes 0) 4)
+    (circuitsIn bytes (min 512 (wordAt (partOf bytes 0) 6)) (length bytes / 512 - 1))

@@ -1,11 +1,11 @@
 -- Storing a book.
-use Prim.Native.Nat.{ℕ, _+_, _*_, _≤_}
-use mathlib.Core.Path.{_≡_}
+use Prim.Native.Nat.{ℕ}
 use mathlib.Core.Bool.{cond}
-use mathlib.Core.List.{List, _++_}
+use mathlib.Core.List.{List, [], _∷_, _++_}
 use lib.Dec.{ltb}
 use lib.ListN.{length, drop}
 use Rattle.ring.specs.declared.refusals.Refusal.the-variants.{BufferShort}
+use Rattle.ring.specs.Answers.{InNumbers, gives, refuses}
 use Rattle.book.specs.declared.books.Book.{Book}
 use Rattle.book.specs.Books.{liveOf}
 use Rattle.stored.specs.declared.stores.StoreAnswer.{StoreAnswer}
@@ -24,9 +24,7 @@ storeAnswer b buffer = cond (ltb (length buffer) (lengthOf b)) (Refused BufferSh
 unfoldable pub afterStore : Book → List ℕ → List ℕ
 afterStore b buffer = cond (ltb (length buffer) (lengthOf b)) buffer (storedForm b ++ drop (lengthOf b) buffer)
 
--- what the writer of a later block is handed: 512 bytes, and the number of a block that has records
-pub record RecordBlock (b : Book) (number : ℕ) (block : List ℕ) : Type 0 where
-  pub size : length block ≡ 512
-  pub from : 1 ≤ number
-  pub to : number ≤ 9
-  pub filled : 63 * number ≤ length (liveOf b) + 63
+-- the answer in numbers: "Success gives the length."
+abbrev pub storeInNumbers : StoreAnswer → InNumbers
+storeInNumbers (Stored size) = gives (size ∷ [])
+storeInNumbers (Refused r) = refuses r

@@ -8,7 +8,7 @@ use Rattle.book.specs.declared.circuits.Circuit.{Circuit}
 use Rattle.book.specs.declared.books.Book.{Book}
 use Rattle.book.specs.Circuits.{circuit, endsOf}
 use Rattle.book.specs.Books.{liveOf}
-use Rattle.book.specs.Conflicts.{conflictIn}
+use Rattle.book.specs.Grants.{heldOnWay}
 
 -- "a limit above": n from 3 to 256, w from 1 to 128
 unfoldable pub ringFits : ℕ → ℕ → Bool
@@ -24,7 +24,9 @@ serialFits last grants serial = ltb last serial && leb serial grants
 
 -- a circuit behind others, the last of which has this serial: its limits, its serial, "feasibility"
 unfoldable pub mayFollow : Book → List Circuit → ℕ → Circuit → Bool
-mayFollow b earlier last c = (circuitFits (b .n) (b .w) c && serialFits last (b .grants) (c .serial)) && not (conflictIn earlier (c .way) (endsOf c) (c .colour))
+mayFollow b earlier last c =
+    (circuitFits (b .n) (b .w) c && serialFits last (b .grants) (c .serial))
+    && not (heldOnWay (b .n) earlier (c .way) (endsOf c) (c .colour))
 
 -- the serial before place i
 abbrev pub lastSerial : List Circuit → ℕ → ℕ

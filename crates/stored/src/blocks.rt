@@ -1,17 +1,13 @@
 // Blocks of 512 bytes: block number, check, zeros.
-use super::flags::both;
 use super::words::put_word;
+use super::words::value;
 use super::words::word_at;
+use ring::flags::both;
 ghost use mathlib.Core.Path.{_≡_};
 ghost use lib.ListN.{length, replicate};
-ghost use Rattle.stored.specs.Blocks.{checkOf, sealed};
+ghost use Rattle.stored.specs.Blocks.{checkOf};
+ghost use Rattle.stored.specs.Internal.Handing.{sealed};
 ghost use Rattle.stored.specs.Reading.{blockRight};
-
-fn wide(x: u8) -> u32
-    ensures { λ r. ⌜ r ≡ x ⌝ }
-{
-    x as u32
-}
 
 // Bytes 0 to 509, each times its position plus one, summed, modulo 65,521.
 pub fn check_of(block: &[u8]) -> u16
@@ -21,7 +17,7 @@ pub fn check_of(block: &[u8]) -> u16
     let mut sum: u32 = 0;
     let mut i: u32 = 0;
     while i < 510 {
-        sum += wide(block[i as usize]) * (i + 1);
+        sum += (value(block[i as usize]) as u32) * (i + 1);
         i += 1;
     }
     (sum % 65521) as u16

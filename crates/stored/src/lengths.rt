@@ -1,5 +1,5 @@
 // The length of the stored form for each live count.
-use book::books::wide;
+use ring::numbers::wide;
 ghost use mathlib.Core.Path.{_≡_};
 ghost use Prim.Native.Nat.{_≤_};
 ghost use Rattle.stored.specs.Forms.{storedLength};

@@ -1,6 +1,5 @@
 // The stored form of a ring book: store and load.
 pub mod blocks;
-pub mod flags;
 pub mod lengths;
 pub mod loads;
 pub mod readers;

@@ -1,8 +1,5 @@
 // Loading a book.
-use super::flags::both;
-use super::flags::either;
 use super::lengths::stored_length;
-use super::readers::blank;
 use super::readers::blocks_right;
 use super::readers::book_in;
 use super::stores::store;
@@ -10,11 +7,18 @@ use super::validity::book_fits;
 use book::Book;
 use book::books::live_count;
 use ring::Refusal;
+use ring::buffers::same_bytes;
+use ring::flags::both;
+use ring::flags::either;
+use ring::refusals::Verdict;
+use ring::refusals::or_else;
+use ring::refusals::refuse_if;
 ghost use mathlib.Core.Path.{_≡_};
 ghost use mathlib.Core.List.{[]};
 ghost use Rattle.ring.specs.declared.refusals.Verdict.the-variants as verdict;
 ghost use Rattle.stored.specs.Forms.{storedForm};
-ghost use Rattle.stored.specs.Loading.{lengthWrong, sameBytes, loadUnless, loaded};
+ghost use Rattle.ring.specs.Buffers.{sameBytes};
+ghost use Rattle.stored.specs.Loading.{lengthWrong, loadUnless, loaded};
 
 pub enum LoadAnswer {
     Loaded,
@@ -24,23 +28,6 @@ pub enum LoadAnswer {
 pub struct Loaded {
     pub answer: LoadAnswer,
     pub book: Book,
-}
-
-// Whether two rows of bytes are the same.
-fn same_bytes(xs: &[u8], ys: &[u8]) -> bool
-    ensures { λ r. ⌜ r ≡ sameBytes (now (xs .entry)) (now (ys .entry)) ⌝ }
-{
-    if xs.len() != ys.len() {
-        return false;
-    }
-    let mut i: usize = 0;
-    while i < xs.len() {
-        if xs[i] != ys[i] {
-            return false;
-        }
-        i += 1;
-    }
-    true
 }
 
 // Whether the bytes are the stored form of the book. The copy has room for every stored form, so the answer of store is its length.
@@ -64,7 +51,7 @@ fn length_wrong(length: usize) -> bool
 fn refused(refusal: Refusal) -> Loaded
     ensures { λ r. ⌜ r ≡ loadUnless (verdict.Refused refusal) [] ⌝ }
 {
-    let book = blank(0, 0, 0);
+    let book = Book::blank(0, 0, 0);
     Loaded {
         answer: LoadAnswer::Refused(refusal),
         book: book,
@@ -78,15 +65,18 @@ pub fn load(bytes: &[u8]) -> Loaded
     if length_wrong(bytes.len()) {
         return refused(Refusal::StoredLength);
     }
-    if !blocks_right(bytes) {
-        return refused(Refusal::BlockCheck);
-    }
     let book = book_in(bytes);
-    if !both(book_fits(book), is_form(bytes, book)) {
-        return refused(Refusal::StoredForm);
-    }
-    Loaded {
-        answer: LoadAnswer::Loaded,
-        book: book,
+    let blocks = refuse_if(!blocks_right(bytes), Refusal::BlockCheck);
+    let form = refuse_if(
+        !both(book_fits(book), is_form(bytes, book)),
+        Refusal::StoredForm,
+    );
+    let verdict = or_else(blocks, form);
+    match verdict {
+        Verdict::Allowed => Loaded {
+            answer: LoadAnswer::Loaded,
+            book: book,
+        },
+        Verdict::Refused(refusal) => refused(refusal),
     }
 }

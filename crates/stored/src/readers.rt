@@ -1,21 +1,21 @@
 // Reading blocks, each from its own place.
 use super::blocks::block_right;
-use super::flags::both;
 use super::stores::block_share;
-use super::stores::narrow;
 use super::words::word_at;
 use book::Book;
 use book::Circuit;
 use book::books::live_count;
-use book::books::wide;
 use ring::Fate;
 use ring::fates::fate_of;
+use ring::flags::both;
+use ring::numbers::narrow;
+use ring::numbers::wide;
 ghost use mathlib.Core.Path.{_≡_};
-ghost use mathlib.Core.List.{[]};
 ghost use Prim.Native.Nat.{_+_, _-_, _/_, _%_, _<_, _≤_, min};
 ghost use lib.ListN.{length};
-ghost use Rattle.book.specs.Books.{liveOf, bookOf};
-ghost use Rattle.stored.specs.Reading.{blocksRight, circuitAt, recordsIn, bookIn, extended, ReadRoom};
+ghost use Rattle.book.specs.Books.{liveOf};
+ghost use Rattle.stored.specs.Reading.{blocksRight, circuitAt, recordsIn, bookIn};
+ghost use Rattle.stored.specs.Internal.Handing.{extended, ReadRoom};
 
 // Whether every block has its number and its check.
 pub fn blocks_right(bytes: &[u8]) -> bool
@@ -73,21 +73,6 @@ fn read_block(block: &[u8], book: Book, live: usize) -> Book
     filled
 }
 
-// A book with no circuit.
-pub fn blank(n: u16, w: u16, grants: u16) -> Book
-    ensures { λ r. ⌜ r ≡ bookOf n w grants [] ⌝ }
-{
-    let vacant = Circuit::vacant();
-    let places = [vacant; 512];
-    Book {
-        n: n,
-        w: w,
-        grants: grants,
-        live: 0,
-        places: places,
-    }
-}
-
 // A live count, of which no more than 512 are read.
 fn at_most_all(live: u16) -> usize
     ensures { λ r. ⌜ r ≡ min 512 live ⌝ }
@@ -103,7 +88,7 @@ pub fn book_in(bytes: &[u8]) -> Book
 {
     let header = &bytes[0..512];
     let live = at_most_all(word_at(header, 6));
-    let mut book = blank(word_at(header, 0), word_at(header, 2), word_at(header, 4));
+    let mut book = Book::blank(word_at(header, 0), word_at(header, 2), word_at(header, 4));
     let count = bytes.len() / 512;
     let mut block: usize = 1;
     while block < count {

@@ -9,32 +9,29 @@ use book::books::live_count;
 use ring::Refusal;
 use ring::Way;
 use ring::fates::way_number;
+use ring::numbers::narrow;
 ghost use mathlib.Core.Path.{_≡_};
 ghost use mathlib.Core.List.{_++_};
 ghost use Prim.Native.Nat.{_+_, _%_, _<_, _≤_, min};
 ghost use lib.ListN.{length};
 ghost use Rattle.ring.specs.declared.fates.Fate.the-variants.{Served};
 ghost use Rattle.ring.specs.Fates.{fateNumber};
-ghost use Rattle.stored.specs.Blocks.{word, written, blockOf};
+ghost use Rattle.ring.specs.Buffers.{written};
+ghost use Rattle.stored.specs.Blocks.{word, blockOf};
 ghost use Rattle.stored.specs.Forms.{recordBytes, contents};
-ghost use Rattle.stored.specs.Storing.{RecordBlock, storeAnswer, afterStore};
+ghost use Rattle.stored.specs.Storing.{storeAnswer, afterStore};
+ghost use Rattle.stored.specs.Internal.Handing.{RecordBlock};
 
 pub enum StoreAnswer {
     Stored(u16),
     Refused(Refusal),
 }
 
-fn wide(x: u16) -> u32
-    ensures { λ r. ⌜ r ≡ x ⌝ }
-{
-    x as u32
-}
-
 // The fate number of a circuit, cut to 16 bits: whole in every valid book.
 fn fate_field(way: Way, colour: u16) -> u16
     ensures { λ r. ⌜ r ≡ fateNumber (Served way colour) % 65536 ⌝ }
 {
-    let number = 2 * wide(colour) + 1 + wide(way_number(way));
+    let number = 2 * (colour as u32) + 1 + (way_number(way) as u32);
     (number % 65536) as u16
 }
 
@@ -48,13 +45,6 @@ fn put_record(block: &mut [u8], at: usize, circuit: Circuit)
     put_word(block, at + 2, circuit.a);
     put_word(block, at + 4, circuit.b);
     put_word(block, at + 6, fate_field(way, circuit.colour));
-}
-
-pub fn narrow(x: usize) -> u16
-    requires { ⌜ x < 65536 ⌝ }
-    ensures { λ r. ⌜ r ≡ x ⌝ }
-{
-    x as u16
 }
 
 // Writes block 0.

@@ -1,19 +1,19 @@
 // The tests for a valid book.
-use super::flags::both;
 use book::Book;
 use book::Circuit;
 use book::books::live_count;
+use book::circuits::ends_of;
 use links::hold;
-use ring::Request;
 use ring::Ring;
+use ring::flags::both;
 ghost use mathlib.Core.Path.{_≡_};
 ghost use mathlib.Core.Bool.{true, _&&_};
 ghost use Prim.Native.Nat.{_≤_};
 ghost use lib.ListN.{length};
 ghost use Rattle.book.specs.Books.{liveOf};
-ghost use Rattle.links.specs.Links.{Rows};
+ghost use Rattle.links.specs.Links.{LinkSets};
 ghost use Rattle.stored.specs.Validity.{ringFits, circuitFits, serialFits, circuitsFit, bookFits};
-ghost use Rattle.stored.specs.Following.{Follows};
+ghost use Rattle.stored.specs.Internal.Following.{NextHolds};
 
 fn ring_fits(n: u16, w: u16) -> bool
     ensures { λ r. ⌜ r ≡ ringFits n w ⌝ }
@@ -36,7 +36,8 @@ fn serial_fits(last: u16, grants: u16, serial: u16) -> bool
     both(last < serial, serial <= grants)
 }
 
-// Whether a circuit may follow others: its limits, its serial, and that no link of its way is held in its colour. From then on it holds them.
+// Whether a circuit may follow others: its limits, its serial, and that no link of its way is held in its colour. From then on it holds
+// them.
 fn may_follow(
     held: &mut [[u64; 4]],
     n: u16,
@@ -45,8 +46,9 @@ fn may_follow(
     last: u16,
     circuit: Circuit,
 ) -> bool
-    requires { ⌜ Rows (now held) × (n ≤ 256) × (w ≤ 128) ⌝ }
-    ensures { λ r. ⌜ Follows (now (held .entry)) (now (held .exit)) (circuitFits n w circuit && serialFits last grants (circuit .serial)) circuit r ⌝ }
+    requires { ⌜ LinkSets (now held) × (n ≤ 256) × (w ≤ 128) ⌝ }
+    ensures { λ r. ⌜ NextHolds (now (held .entry)) (now (held .exit))
+        (circuitFits n w circuit && serialFits last grants (circuit .serial)) circuit r ⌝ }
 {
     let fits = both(
         circuit_fits(n, w, circuit),
@@ -56,11 +58,7 @@ fn may_follow(
         return false;
     }
     let way = circuit.way;
-    let ends = Request {
-        a: circuit.a,
-        b: circuit.b,
-    };
-    hold(held, way, ends, circuit.colour as usize)
+    hold(held, way, ends_of(circuit), circuit.colour as usize)
 }
 
 // Whether each live circuit may follow those before it. `may_follow` is handed numbers: the book would be copied for each circuit.

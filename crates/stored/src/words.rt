@@ -2,7 +2,8 @@
 ghost use mathlib.Core.Path.{_≡_};
 ghost use Prim.Native.Nat.{_+_, _/_, _%_, _<_};
 ghost use lib.ListN.{length};
-ghost use Rattle.stored.specs.Blocks.{word, wordAt, written};
+ghost use Rattle.ring.specs.Buffers.{written};
+ghost use Rattle.stored.specs.Blocks.{word, wordAt};
 
 fn low(x: u16) -> u8
     ensures { λ r. ⌜ r ≡ x % 256 ⌝ }
@@ -25,10 +26,11 @@ pub fn put_word(bytes: &mut [u8], at: usize, x: u16)
     bytes[at + 1] = high(x);
 }
 
-fn wide(x: u8) -> u16
-    ensures { λ r. ⌜ (r ≡ x) × (r < 256) ⌝ }
+// The number that a byte is.
+pub fn value(byte: u8) -> u16
+    ensures { λ r. ⌜ (r ≡ byte) × (r < 256) ⌝ }
 {
-    x as u16
+    byte as u16
 }
 
 // Reads a number.
@@ -36,5 +38,5 @@ pub fn word_at(bytes: &[u8], at: usize) -> u16
     requires { ⌜ at + 1 < length (now bytes) ⌝ }
     ensures { λ r. ⌜ r ≡ wordAt (now (bytes .entry)) at ⌝ }
 {
-    wide(bytes[at]) + 256 * wide(bytes[at + 1])
+    value(bytes[at]) + 256 * value(bytes[at + 1])
 }

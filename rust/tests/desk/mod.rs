@@ -1,16 +1,15 @@
-//! The program `ringbook` at work in a folder of its own, and a naive session to compare it with.
+//! The program `ringbook` at work in a folder of its own, and a naive desk to compare it with.
 #![allow(dead_code)]
 
+mod naive;
+
 use std::fs;
-use std::io::{Read, Write};
+use std::io::{BufRead, BufReader, Read, Write};
 use std::path::PathBuf;
-use std::process::{Command, ExitStatus, Stdio};
+use std::process::{Child, ChildStdin, ChildStdout, Command, ExitStatus, Stdio};
 
-use ring_planner::{Refusal, Way};
-
-use crate::reference::books::NaiveBook;
-use crate::reference::draws::{draw, draw_grant, draw_serial};
-use crate::reference::Random;
+#[allow(unused_imports)]
+pub use naive::*;
 
 /// A folder that is empty at first; the book's file is `book`, and the new one that takes its place `book.new`.
 pub struct Folder(PathBuf);
@@ -109,128 +108,46 @@ pub fn run(command: &mut Command, input: &[u8], piece: usize) -> Run {
     }
 }
 
-/// The commands, with how many numbers each has.
-const COMMANDS: [(&str, usize); 6] = [
-    ("open", 2),
-    ("grant", 4),
-    ("remove", 1),
-    ("show", 1),
-    ("holder", 2),
-    ("count", 0),
-];
-
-/// A session as the rules have it: a naive book, or none.
-#[derive(Clone, Default)]
-pub struct NaiveSession(pub Option<NaiveBook>);
-
-/// The numbers of a line's words, if each has 1 to 5 digits and is at most 65,535.
-fn numbers(words: &[&str]) -> Option<Vec<u16>> {
-    let digits =
-        |word: &&str| (1..=5).contains(&word.len()) && word.bytes().all(|b| b.is_ascii_digit());
-    words
-        .iter()
-        .map(|word| Some(word).filter(|w| digits(w))?.parse().ok())
-        .collect()
+/// A session that is typed into: each line is answered before the next one is entered.
+pub struct Session {
+    child: Child,
+    input: ChildStdin,
+    output: BufReader<ChildStdout>,
 }
 
-pub fn refused(number: u16) -> String {
-    let refusal = Refusal {
-        number,
-        values: [0, 0],
-    };
-    format!("refused {number} {}\n", refusal.ground())
-}
-
-impl NaiveSession {
-    /// The answer to an input of many lines.
-    pub fn answers(&mut self, input: &str) -> String {
-        input
-            .split_inclusive('\n')
-            .map(|line| self.answer(line))
-            .collect()
-    }
-
-    /// The answer to a line, its line feed included.
-    fn answer(&mut self, line: &str) -> String {
-        let unreadable = "error unreadable command\n".to_string();
-        let Some(text) = line.strip_suffix('\n') else {
-            return unreadable;
-        };
-        let words: Vec<&str> = text.split(' ').collect();
-        let Some(numbers) = numbers(&words[1..]) else {
-            return unreadable;
-        };
-        if !COMMANDS.contains(&(words[0], numbers.len())) {
-            return unreadable;
-        }
-        if words[0] == "open" {
-            return self.open(numbers[0], numbers[1]);
-        }
-        match &mut self.0 {
-            Some(book) => answer_on(book, words[0], &numbers).unwrap_or_else(refused),
-            None => "error no book\n".to_string(),
+impl Session {
+    pub fn new(command: &mut Command) -> Session {
+        let mut child = command
+            .stdin(Stdio::piped())
+            .stdout(Stdio::piped())
+            .spawn()
+            .expect("the program is built");
+        let input = child.stdin.take().unwrap();
+        let output = BufReader::new(child.stdout.take().unwrap());
+        Session {
+            child,
+            input,
+            output,
         }
     }
 
-    fn open(&mut self, n: u16, w: u16) -> String {
-        if self.0.is_some() {
-            return "error a book is open\n".to_string();
-        }
-        match NaiveBook::open(n, w) {
-            Ok(book) => {
-                self.0 = Some(book);
-                format!("opened {n} {w}\n")
-            }
-            Err(number) => refused(number),
-        }
+    /// The answer to a line that has an answer of one line.
+    pub fn enter(&mut self, line: &str) -> String {
+        self.input.write_all(line.as_bytes()).unwrap();
+        let mut answer = String::new();
+        self.output.read_line(&mut answer).unwrap();
+        answer
     }
-}
 
-/// The answer to a command on a book, or the refusal's number.
-fn answer_on(book: &mut NaiveBook, command: &str, numbers: &[u16]) -> Result<String, u16> {
-    Ok(match *numbers {
-        [x, y, way, colour] => format!("granted {}\n", book.grant([x, y], way, colour)?),
-        [link, colour] => match book.holder(link, colour)? {
-            Some(serial) => format!("held {serial}\n"),
-            None => "free\n".to_string(),
-        },
-        [serial] if command == "remove" => {
-            book.remove(serial)?;
-            format!("removed {serial}\n")
-        }
-        [serial] => {
-            let c = book.show(serial)?;
-            let way = match c.way {
-                Way::Plain => 'P',
-                Way::Seam => 'S',
-            };
-            format!("circuit {} {} {way} {}\n", c.a, c.b, c.colour)
-        }
-        _ => format!("live {} grants {}\n", book.live.len(), book.grants),
-    })
-}
-
-/// A line of a random session.
-pub fn draw_line(random: &mut Random, session: &NaiveSession) -> String {
-    let Some(book) = &session.0 else {
-        return format!("open {} {}\n", draw(random, 256), draw(random, 128));
-    };
-    let serial = draw_serial(random, book);
-    let line = match random.below(16) {
-        0 => format!("open {} {}", draw(random, 256), draw(random, 128)),
-        1 => "count".to_string(),
-        2 => format!("show {serial}"),
-        3 | 4 => format!("holder {} {}", draw(random, book.n), draw(random, book.w)),
-        5..=7 => format!("remove {serial}"),
-        _ => {
-            let ([x, y], way, colour) = draw_grant(random, book.n, book.w);
-            format!("grant {x} {y} {way} {colour}")
-        }
-    };
-    let mut bytes = line.into_bytes();
-    if random.below(40) == 0 {
-        let at = random.below(bytes.len() as u64) as usize;
-        bytes[at] = b"09 xG-"[random.below(6) as usize];
+    /// The terminal is closed, and its program gone, with no end of the input.
+    pub fn close_terminal(mut self) {
+        self.child.kill().unwrap();
+        self.child.wait().unwrap();
     }
-    String::from_utf8(bytes).unwrap() + "\n"
+
+    /// The end of the input.
+    pub fn end(mut self) {
+        drop(self.input);
+        assert!(self.child.wait().unwrap().success());
+    }
 }

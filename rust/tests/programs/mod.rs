@@ -1,11 +1,21 @@
 //! The proved programs, run on given input. Used by the other tests as a module.
-use std::io::{Read, Write};
+#![allow(dead_code)]
+
+use std::fs::OpenOptions;
+use std::io::Write;
 use std::process::{Command, Stdio};
 
-/// What a program prints for an input that comes in pieces of the given size.
-pub fn output(name: &str, input: &[u8], piece: usize) -> String {
+/// A program with its words.
+pub fn program(words: &[&str]) -> Command {
     let folder = concat!(env!("CARGO_MANIFEST_DIR"), "/../target/bin/");
-    let mut child = Command::new(format!("{folder}{name}"))
+    let mut command = Command::new(format!("{folder}{}", words[0]));
+    command.args(&words[1..]);
+    command
+}
+
+/// What a program prints for an input that comes in pieces of the given size.
+pub fn output(words: &[&str], input: &[u8], piece: usize) -> String {
+    let mut child = program(words)
         .stdin(Stdio::piped())
         .stdout(Stdio::piped())
         .spawn()
@@ -18,13 +28,28 @@ pub fn output(name: &str, input: &[u8], piece: usize) -> String {
         }
     }
     drop(stdin);
-    let mut text = String::new();
-    child
-        .stdout
-        .take()
-        .unwrap()
-        .read_to_string(&mut text)
+    let ended = child.wait_with_output().unwrap();
+    assert!(ended.status.success() && ended.stderr.is_empty());
+    String::from_utf8(ended.stdout).unwrap()
+}
+
+/// What a program prints and what it says on standard error, where reading a directory as the input fails.
+pub fn unreadable(words: &[&str]) -> [String; 2] {
+    let folder = OpenOptions::new().read(true).open("/").unwrap();
+    let ended = program(words).stdin(folder).output().unwrap();
+    [ended.stdout, ended.stderr].map(|text| String::from_utf8(text).unwrap())
+}
+
+/// What a program says on standard error, where no output can be written.
+pub fn unwritable(words: &[&str], input: &[u8]) -> String {
+    let full = OpenOptions::new().write(true).open("/dev/full").unwrap();
+    let mut child = program(words)
+        .stdin(Stdio::piped())
+        .stdout(full)
+        .stderr(Stdio::piped())
+        .spawn()
         .unwrap();
-    assert!(child.wait().unwrap().success());
-    text
+    child.stdin.take().unwrap().write_all(input).unwrap();
+    let ended = child.wait_with_output().unwrap();
+    String::from_utf8(ended.stderr).unwrap()
 }

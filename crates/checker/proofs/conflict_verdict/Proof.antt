@@ -1,12 +1,10 @@
-use mathlib.Core.Path.{sym}
 use borrow.Author.Needs.{needs}
+use mathlib.Core.Path.{sym}
 use Rattle.checker.proofs.conflict_verdict.Statement.{statement}
 use Rattle.checker.proofs.conflict_verdict.Tie as tie
 
 disjoint-requires : tie.Need-disjoint-requires
-disjoint-requires c κs =
-    let s = c .before .before in
-    (s .pre .0, s .pre .2, s .pre .3)
+disjoint-requires c κs = search needs
 
 returns : tie.Need-returns
 returns c = sym (c .before .disjoint .ensures (c .if1 .taken))

@@ -14,7 +14,8 @@ use Rattle.checker.proofs.disjoint.Statement.{statement}
 use Rattle.checker.proofs.disjoint.Tie as tie
 
 abbrev Inv-loop : tie.InvT-loop
-Inv-loop ends numbers held₀ i₀ held i = (i ≤ length numbers) × (length numbers ≡ length (requestsOf ends)) × Disjoint (requestsOf ends) (fatesOf numbers) held i
+Inv-loop ends numbers held₀ i₀ held i =
+    (i ≤ length numbers) × (length numbers ≡ length (requestsOf ends)) × Disjoint (requestsOf ends) (fatesOf numbers) held i
 
 abbrev μ-loop : tie.MeasureT-loop
 μ-loop ends numbers held₀ i₀ held i = length numbers - i
@@ -37,11 +38,11 @@ request-at-requires c κs = search needs
 place-requires : tie.Need-place-requires Inv-loop μ-loop
 place-requires c κs =
     let here = c .before .before .before .before in
-    let s = here .before .before .before in
+    let s = c .before .before .before .before .before .before .before in
     let l : here .loop .i < length (requestsOf (s .args .ends .now)) = omega (arith, here .loop .inv .1) in
     let first : c .request-at .result .a < c .request-at .result .b = rw (c .request-at .ensures) (s .pre .1 .ordered _ l) in
     let last : c .request-at .result .b < 256 = rw (c .request-at .ensures) (s .pre .1 .nodes _ l) in
-    (here .loop .inv .2 .shape, first, last, s .pre .2 _ (omega arith))
+    (here .loop .inv .2 .shape, first, last)
 
 returns : tie.Need-returns Inv-loop μ-loop
 returns c = λ e. impossible (sym e)
@@ -54,11 +55,15 @@ loop-less c = search needs
 
 loop-again : tie.Need-loop-again Inv-loop μ-loop
 loop-again c =
-    let placed = c .before .before in
-    let request = placed .before in
-    let here = request .before .before .before .before in
-    let s = here .before .before .before in
-    (omega arith, here .loop .inv .1, disjoint-turn (requestsOf (s .args .ends .now)) (s .args .numbers .now) _ _ (here .loop .i) _ _ (s .pre .1) (omega (arith, here .loop .inv .1)) (s .pre .2 _ (omega arith)) (request .request-at .ensures) (not-false _ (c .if1 .left)) (placed .place .ensures) (here .loop .inv .2))
+    let here = c .before .before .before .before .before .before .before .loop in
+    let s = c .before .before .before .before .before .before .before .before .before .before in
+    let R = requestsOf (s .args .ends .now) in
+    let placed = c .before .before .place .ensures (not-false _ (c .if1 .left)) in (
+      omega arith,
+      here .inv .1,
+      disjoint-turn R (s .args .numbers .now) _ _ (here .i) _ (s .pre .1) (omega (arith, here .inv .1))
+          (c .before .before .before .request-at .ensures) placed (here .inv .2),
+    )
 
 returns-2 : tie.Need-returns-2 Inv-loop μ-loop
 returns-2 c = λ e. disjoint-end _ _ _ _ (omega (arith, c .before .loop .inv .1)) (c .before .loop .inv .2)

@@ -1,5 +1,5 @@
 use mathlib.Core.Path.{ap, sym, _∙_}
-use Rattle.ring.specs.Ways.{sharing}
+use Rattle.ring.specs.Internal.Sharing.{sharing}
 use Rattle.checker.proofs.ConflictLaws.{blocked-apart, colours-apart, colours-same}
 use borrow.Author.Needs.{needs}
 use Rattle.checker.proofs.in_conflict.Statement.{statement}

@@ -4,7 +4,7 @@ use mathlib.Core.Path.{_≡_, refl, sym, _∙_}
 use native.Mathlib.Omega.{arith}
 use lib.ListN.{length}
 use Rattle.ring.specs.Requests.{requestsOf}
-use Rattle.ring.specs.Ways.{sharing}
+use Rattle.ring.specs.Internal.Sharing.{sharing}
 use Rattle.ring.specs.Plans.{fatesOf}
 use Rattle.ring.proofs.RequestLaws.{requests-length}
 use Rattle.checker.specs.Check.{firstGround, pairVerdict, laterVerdict}
@@ -16,7 +16,8 @@ use Rattle.checker.proofs.later_verdict.Tie as tie
 abbrev Inv-loop : tie.InvT-loop
 Inv-loop ends numbers i way colour r j₀ j =
     (i < j) × (j ≤ length numbers) × (length numbers ≡ length (requestsOf ends))
-    × (firstGround (pairVerdict sharing (requestsOf ends) (fatesOf numbers) i) j (length (requestsOf ends) - j) ≡ laterVerdict sharing (requestsOf ends) (fatesOf numbers) i)
+    × (firstGround (pairVerdict sharing (requestsOf ends) (fatesOf numbers) i) j (length (requestsOf ends) - j)
+    ≡ laterVerdict sharing (requestsOf ends) (fatesOf numbers) i)
 
 abbrev μ-loop : tie.MeasureT-loop
 μ-loop ends numbers i way colour r j₀ j = length numbers - j

@@ -35,7 +35,8 @@ returns : tie.Need-returns Inv-loop μ-loop
 returns c =
     let here = c .before .before .before in
     let s = here .before .args in
-    walk-found _ (here .loop .i) (length (s .numbers .now)) _ (here .loop .inv .1) (omega arith) _ (number-above (s .w) (s .numbers .now) (here .loop .i) (omega arith))
+    walk-found _ (here .loop .i) (length (s .numbers .now)) _ (here .loop .inv .1) (omega arith) _
+    (number-above (s .w) (s .numbers .now) (here .loop .i) (omega arith))
 
 add-i : tie.Need-add-i Inv-loop μ-loop
 add-i c = search needs
@@ -48,7 +49,8 @@ loop-again c =
     let here = c .before .before .before in
     let s = here .before .args in (
       omega arith,
-      walk-next _ (here .loop .i) (length (s .numbers .now)) _ (here .loop .inv .1) (omega arith) (number-within (s .w) (s .numbers .now) (here .loop .i) (omega arith)),
+      walk-next _ (here .loop .i) (length (s .numbers .now)) _ (here .loop .inv .1) (omega arith)
+          (number-within (s .w) (s .numbers .now) (here .loop .i) (omega arith)),
     )
 
 returns-2 : tie.Need-returns-2 Inv-loop μ-loop

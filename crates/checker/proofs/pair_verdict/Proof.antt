@@ -4,7 +4,7 @@ use mathlib.Core.Path.{_≡_, sym, _∙_}
 use native.Mathlib.Omega.{arith}
 use lib.ListN.{length}
 use Rattle.ring.specs.Requests.{requestsOf}
-use Rattle.ring.specs.Ways.{sharing}
+use Rattle.ring.specs.Internal.Sharing.{sharing}
 use Rattle.ring.specs.Plans.{fatesOf}
 use Rattle.ring.proofs.RequestLaws.{requests-length}
 use Rattle.checker.specs.Check.{firstGround, laterVerdict, pairVerdicts}
@@ -15,7 +15,8 @@ use Rattle.checker.proofs.pair_verdict.Tie as tie
 abbrev Inv-loop : tie.InvT-loop
 Inv-loop ends numbers i₀ i =
     (i ≤ length numbers) × (length numbers ≡ length (requestsOf ends))
-    × (firstGround (laterVerdict sharing (requestsOf ends) (fatesOf numbers)) i (length (requestsOf ends) - i) ≡ pairVerdicts sharing (requestsOf ends) (fatesOf numbers))
+    × (firstGround (laterVerdict sharing (requestsOf ends) (fatesOf numbers)) i (length (requestsOf ends) - i)
+    ≡ pairVerdicts sharing (requestsOf ends) (fatesOf numbers))
 
 abbrev μ-loop : tie.MeasureT-loop
 μ-loop ends numbers i₀ i = length numbers - i

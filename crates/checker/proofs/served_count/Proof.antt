@@ -10,7 +10,8 @@ use Rattle.checker.proofs.served_count.Statement.{statement}
 use Rattle.checker.proofs.served_count.Tie as tie
 
 abbrev Inv-loop : tie.InvT-loop
-Inv-loop numbers count₀ i₀ count i = (i ≤ length numbers) × (count ≤ i) × (count + served (fatesOf (drop i numbers)) ≡ served (fatesOf numbers))
+Inv-loop numbers count₀ i₀ count i =
+    (i ≤ length numbers) × (count ≤ i) × (count + served (fatesOf (drop i numbers)) ≡ served (fatesOf numbers))
 
 abbrev μ-loop : tie.MeasureT-loop
 μ-loop numbers count₀ i₀ count i = length numbers - i

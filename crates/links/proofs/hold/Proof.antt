@@ -67,8 +67,11 @@ loop-less c = search needs
 loop-again : tie.Need-loop-again Inv-loop μ-loop
 loop-again c =
     let here = c .before .before .before .before .before in
-    let start = here .before in
-    (omega arith, done-turn _ _ _ _ _ _ _ _ _ (start .pre .1 .colours) (omega arith) (here .loop .inv .1) (omega arith) (c .before .before .before .word .ensures) (c .before .still-free .ensures))
+    let start = here .before in (
+      omega arith,
+      done-turn _ _ _ _ _ _ _ _ _ (start .pre .1 .colours) (omega arith) (here .loop .inv .1) (omega arith)
+          (c .before .before .before .word .ensures) (c .before .still-free .ensures),
+    )
 
 same-length : tie.Need-same-length Inv-loop μ-loop
 same-length c = search needs

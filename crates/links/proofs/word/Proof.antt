@@ -29,13 +29,15 @@ enum-told-2 c = search needs
 returns : tie.Need-returns
 returns c = λ i h.
     let s = c .before .before .before .before .before .before in
-    on-plain (s .args .request) (s .args .k) i _ _ (s .pre .0) (c .before .before .below2 .ensures i h) (c .before .before .before .before .below .ensures i h)
+    on-plain (s .args .request) (s .args .k) i _ _ (s .pre .0) (c .before .before .below2 .ensures i h)
+    (c .before .before .before .before .below .ensures i h)
     ∙ ap (λ (v : Way). uses v (s .args .request) (64 * s .args .k + i)) (sym (c .enum-told .given .1))
 
 returns-2 : tie.Need-returns-2
 returns-2 c = λ i h.
     let s = c .before .before .before .before .before .before in
-    on-seam (s .args .request) (s .args .k) i _ _ (s .pre .0) (c .before .before .below2 .ensures i h) (c .before .before .before .before .below .ensures i h) (omega arith) (omega arith) h
+    on-seam (s .args .request) (s .args .k) i _ _ (s .pre .0) (c .before .before .below2 .ensures i h)
+    (c .before .before .before .before .below .ensures i h) (omega arith) (omega arith) h
     ∙ ap (λ (v : Way). uses v (s .args .request) (64 * s .args .k + i)) (sym (c .enum-told2 .given .1))
 
 pub word-spec : {M : Type 1} → statement M

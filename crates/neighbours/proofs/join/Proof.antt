@@ -3,8 +3,8 @@ use Prim.Native.Nat.{_-_, _≤_}
 use mathlib.Core.Path.{_≡_}
 use native.Mathlib.Omega.{arith}
 use borrow.Author.Needs.{needs}
-use Rattle.neighbours.specs.Rows.{Joined}
-use Rattle.neighbours.proofs.RowLaws.{join-start, join-turn}
+use Rattle.neighbours.specs.Internal.NodeSets.{Joined}
+use Rattle.neighbours.proofs.NodeSetLaws.{join-start, join-turn}
 use Rattle.neighbours.proofs.join.Statement.{statement}
 use Rattle.neighbours.proofs.join.Tie as tie
 

@@ -1,8 +1,8 @@
 use native.Mathlib.Omega.{arith}
-use Rattle.ring.proofs.RequestLaws.{requests-length}
-use Rattle.neighbours.proofs.PrefixLaws.{ends-below, prefixes-rows}
-use Rattle.neighbours.proofs.CrossingLaws.{uncrossed-end}
 use borrow.Author.Needs.{needs}
+use Rattle.ring.proofs.RequestLaws.{requests-length}
+use Rattle.neighbours.proofs.PrefixLaws.{ends-below, prefixes-node-sets}
+use Rattle.neighbours.proofs.CrossingLaws.{uncrossed-end}
 use Rattle.neighbours.proofs.neighbours.Statement.{statement}
 use Rattle.neighbours.proofs.neighbours.Tie as tie
 
@@ -23,13 +23,14 @@ uncrossed-requires c κs =
     let start = c .before .before .before .before .before in
     let few = requests-length (start .args .ends .now) in
     let ends = ends-below _ _ _ (start .pre .2) (start .pre .0) (c .before .before .before .request-at .ensures) in
-    (prefixes-rows _ _ (start .pre .3), ends .0, ends .1, omega (arith, start .pre .1), start .pre .4)
+    (prefixes-node-sets _ _ (start .pre .3), omega (arith, ends), omega (arith, ends), omega (arith, start .pre .1), start .pre .4)
 
 returns : tie.Need-returns
 returns c =
     let start = c .before .before .before .before .before .before in
     let few = requests-length (start .args .ends .now) in
-    uncrossed-end _ _ _ _ _ _ (c .before .before .before .before .request-at .ensures) (start .pre .2) (start .pre .3) (start .pre .0) (omega arith) (c .uncrossed .ensures)
+    uncrossed-end _ _ _ _ _ _ (c .before .before .before .before .request-at .ensures) (start .pre .2) (start .pre .3) (start .pre .0)
+    (omega arith) (c .uncrossed .ensures)
 
 pub neighbours-spec : {M : Type 1} → statement M
 neighbours-spec =

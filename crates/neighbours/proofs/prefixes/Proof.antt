@@ -4,7 +4,8 @@ use native.Mathlib.Omega.{arith}
 use borrow.Author.Needs.{needs}
 use Rattle.ring.specs.Requests.{requestsOf}
 use Rattle.ring.proofs.RequestLaws.{requests-length}
-use Rattle.neighbours.proofs.PrefixLaws.{Behind, Done, ends-below, behind-start, behind-turn, done-start, done-turn, done-end, empty-many}
+use Rattle.neighbours.proofs.PrefixLaws.{Behind, Done, ends-below, behind-start, behind-turn}
+use Rattle.neighbours.proofs.PrefixLaws.{done-start, done-turn, done-end, empty-many}
 use Rattle.neighbours.proofs.prefixes.Statement.{statement}
 use Rattle.neighbours.proofs.prefixes.Tie as tie
 
@@ -37,7 +38,7 @@ put-requires c κs =
     let start = c .before .before .before .before .before .before in
     let few = requests-length (start .args .ends .now) in
     let ends = ends-below _ _ _ (start .pre .1) (omega arith) (c .before .before .request-at .ensures) in
-    (c .before .before .before .before .loop .inv .1 .rows, omega (arith, ends .0), omega (arith, start .pre .0))
+    (c .before .before .before .before .loop .inv .1 .node-sets, omega (arith, ends .0), omega (arith, start .pre .0))
 
 cast-put-2 : tie.Need-cast-put-2 Inv-loop μ-loop Inv-loop2 μ-loop2
 cast-put-2 c = search needs
@@ -50,7 +51,7 @@ put-requires-2 c κs =
     let start = c .before .before .before .before .before .before .before .before .before .before in
     let few = requests-length (start .args .ends .now) in
     let ends = ends-below _ _ _ (start .pre .1) (omega arith) (c .before .before .before .before .before .before .request-at .ensures) in
-    (c .before .before .before .put .ensures .rows, omega (arith, ends .1), omega (arith, start .pre .0))
+    (c .before .before .before .put .ensures .node-sets, omega (arith, ends .1), omega (arith, start .pre .0))
 
 add-i : tie.Need-add-i Inv-loop μ-loop Inv-loop2 μ-loop2
 add-i c = search needs
@@ -61,19 +62,25 @@ loop-less c = search needs
 loop-again : tie.Need-loop-again Inv-loop μ-loop Inv-loop2 μ-loop2
 loop-again c = (
   omega arith,
-  behind-turn _ _ _ _ _ _ (c .before .before .before .before .before .before .before .before .request-at .ensures) (c .before .before .before .before .before .before .before .before .before .before .loop .inv .1) (c .before .before .before .before .before .put .ensures) (c .before .put2 .ensures),
+  behind-turn _ _ _ _ _ _ (c .before .before .before .before .before .before .before .before .request-at .ensures)
+      (c .before .before .before .before .before .before .before .before .before .before .loop .inv .1)
+      (c .before .before .before .before .before .put .ensures) (c .before .put2 .ensures),
 )
 
 add-words : tie.Need-add-words Inv-loop μ-loop Inv-loop2 μ-loop2
 add-words c = search needs
 
 loop2-holds : tie.Need-loop2-holds Inv-loop μ-loop Inv-loop2 μ-loop2
-loop2-holds c = (omega arith, done-start _ _ (c .before .loop .i) (omega (arith, requests-length (c .before .before .before .args .ends .now))) (c .before .loop .inv .1))
+loop2-holds c = (
+  omega arith,
+  done-start _ _ (c .before .loop .i) (omega (arith, requests-length (c .before .before .before .args .ends .now)))
+      (c .before .loop .inv .1),
+)
 
 join-requires : tie.Need-join-requires Inv-loop μ-loop Inv-loop2 μ-loop2
 join-requires c κs =
     let start = c .before .before .before .before .before .before in
-    (c .before .before .loop2 .inv .1 .rows, omega arith, omega (arith, requests-length (start .args .ends .now), start .pre .0))
+    (c .before .before .loop2 .inv .1 .node-sets, omega arith, omega (arith, requests-length (start .args .ends .now), start .pre .0))
 
 add-x : tie.Need-add-x Inv-loop μ-loop Inv-loop2 μ-loop2
 add-x c = search needs
@@ -84,11 +91,14 @@ loop2-less c = search needs
 loop2-again : tie.Need-loop2-again Inv-loop μ-loop Inv-loop2 μ-loop2
 loop2-again c =
     let start = c .before .before .before .before .before .before .before .before in
-    let few = requests-length (start .args .ends .now) in
-    (omega arith, done-turn _ _ _ _ _ (start .pre .1) (omega arith) (omega arith) (c .before .before .before .before .loop2 .inv .1) (c .before .join .ensures))
+    let few = requests-length (start .args .ends .now) in (
+      omega arith,
+      done-turn _ _ _ _ _ (start .pre .1) (omega arith) (omega arith) (c .before .before .before .before .loop2 .inv .1)
+          (c .before .join .ensures),
+    )
 
 same-length : tie.Need-same-length Inv-loop μ-loop Inv-loop2 μ-loop2
-same-length c = omega (arith, empty-many _ (c .before .before .before .before .before .pre .2), c .before .loop2 .inv .1 .rows .many)
+same-length c = omega (arith, empty-many _ (c .before .before .before .before .before .pre .2), c .before .loop2 .inv .1 .node-sets .many)
 
 returns : tie.Need-returns Inv-loop μ-loop Inv-loop2 μ-loop2
 returns c = done-end _ _ _ (omega arith) (c .before .loop2 .inv .1)

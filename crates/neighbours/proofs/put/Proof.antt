@@ -1,5 +1,5 @@
-use Rattle.neighbours.proofs.RowLaws.{put-row}
 use borrow.Author.Needs.{needs}
+use Rattle.neighbours.proofs.NodeSetLaws.{put-row}
 use Rattle.neighbours.proofs.put.Statement.{statement}
 use Rattle.neighbours.proofs.put.Tie as tie
 

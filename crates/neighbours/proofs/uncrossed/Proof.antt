@@ -3,8 +3,8 @@ use Prim.Native.Nat.{_-_, _≤_}
 use mathlib.Core.Path.{_≡_}
 use native.Mathlib.Omega.{arith}
 use borrow.Author.Needs.{needs}
-use Rattle.neighbours.specs.Rows.{Uncrossed}
-use Rattle.neighbours.proofs.RowLaws.{uncrossed-start, uncrossed-turn}
+use Rattle.neighbours.specs.Internal.NodeSets.{Uncrossed}
+use Rattle.neighbours.proofs.NodeSetLaws.{uncrossed-start, uncrossed-turn}
 use Rattle.neighbours.proofs.uncrossed.Statement.{statement}
 use Rattle.neighbours.proofs.uncrossed.Tie as tie
 
@@ -87,7 +87,11 @@ loop-less : tie.Need-loop-less Inv-loop μ-loop
 loop-less c = search needs
 
 loop-again : tie.Need-loop-again Inv-loop μ-loop
-loop-again c = (omega arith, uncrossed-turn _ _ _ _ _ _ (omega arith) (c .before .before .before .before .before .before .loop .inv .1) (c .uncrossed-word .ensures))
+loop-again c = (
+  omega arith,
+  uncrossed-turn _ _ _ _ _ _ (omega arith) (c .before .before .before .before .before .before .loop .inv .1)
+      (c .uncrossed-word .ensures),
+)
 
 returns : tie.Need-returns Inv-loop μ-loop
 returns c =

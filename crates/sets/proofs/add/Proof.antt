@@ -1,8 +1,8 @@
 use Prim.Native.Nat.{_/_, _<_}
 use native.Mathlib.Omega.{arith}
 use lib.ListN.{length, length-set}
-use Rattle.sets.proofs.SetLaws.{added}
 use borrow.Author.Needs.{needs}
+use Rattle.sets.proofs.SetLaws.{added}
 use Rattle.sets.proofs.add.Statement.{statement}
 use Rattle.sets.proofs.add.Tie as tie
 

@@ -13,26 +13,27 @@ new-requires c κs = search needs
 enum-told : tie.Need-enum-told
 enum-told c = search needs
 
-empty-requires : tie.Need-empty-requires
-empty-requires c κs = search needs
+blank-requires : tie.Need-blank-requires
+blank-requires c κs = search needs
 
 enum-known-answer : tie.Need-enum-known-answer
 enum-known-answer c = search needs
 
-empty-requires-2 : tie.Need-empty-requires-2
-empty-requires-2 c κs = search needs
+blank-requires-2 : tie.Need-blank-requires-2
+blank-requires-2 c κs = search needs
 
 returns : tie.Need-returns
 returns c =
     let s = c .before .before .before .before .args in
-    ap (λ (d : Book). record { answer = answer.Opened; book = d }) (c .empty .ensures)
+    ap (λ (d : Book). record { answer = answer.Opened; book = d }) (c .blank .ensures)
     ∙ opened-made (s .n) (s .w) _ (sym (c .before .before .before .new .ensures) ∙ c .before .enum-told .given .1)
 
 returns-2 : tie.Need-returns-2
 returns-2 c =
     let s = c .before .before .before .before .before .args in
-    ap (λ (d : Book). record { answer = answer.Refused (c .before .before .answer .given .0 .0); book = d }) (c .empty2 .ensures)
-    ∙ opened-refused (s .n) (s .w) (c .before .before .answer .given .0 .0) (sym (c .before .before .before .before .new .ensures) ∙ c .before .before .answer .given .1)
+    ap (λ (d : Book). record { answer = answer.Refused (c .before .before .answer .given .0 .0); book = d }) (c .blank2 .ensures)
+    ∙ opened-refused (s .n) (s .w) (c .before .before .answer .given .0 .0) (sym (c .before .before .before .before .new .ensures)
+    ∙ c .before .before .answer .given .1)
 
 pub open-spec : {M : Type 1} → statement M
 open-spec =
@@ -40,8 +41,8 @@ open-spec =
     (tie.spec
     new-requires
     enum-told
-    empty-requires
+    blank-requires
     enum-known-answer
-    empty-requires-2
+    blank-requires-2
     returns
     returns-2)

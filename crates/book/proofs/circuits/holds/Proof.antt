@@ -1,26 +1,21 @@
-use mathlib.Core.Path.{sym, _∙_, ap}
-use mathlib.Core.Bool.{Bool, _&&_}
-use borrow.Author.Tests.{eq-eqb, ne-eqb}
-use Rattle.ring.specs.Ways.{uses}
-use Rattle.book.specs.Circuits.{holds, endsOf}
 use borrow.Author.Needs.{needs}
+use mathlib.Core.Path.{_∙_}
+use Rattle.book.specs.Circuits.{holds}
 use Rattle.book.proofs.circuits.holds.Statement.{statement}
 use Rattle.book.proofs.circuits.holds.Tie as tie
+
+ends-of-requires : tie.Need-ends-of-requires
+ends-of-requires c κs = search needs
 
 uses-requires : tie.Need-uses-requires
 uses-requires c κs = search needs
 
+both-requires : tie.Need-both-requires
+both-requires c κs = search needs
+
 returns : tie.Need-returns
 unfolding holds
-returns c =
-    let s = c .before .before .before .args in
-    c .uses .ensures ∙ ap (λ (t : Bool). t && uses (s .circuit .way) (endsOf (s .circuit)) (s .link)) (sym (eq-eqb _ _ (c .before .if1 .taken)))
-
-returns-2 : tie.Need-returns-2
-unfolding holds
-returns-2 c =
-    let s = c .before .before .args in
-    ne-eqb _ _ (c .if1 .left) ∙ ap (λ (t : Bool). t && uses (s .circuit .way) (endsOf (s .circuit)) (s .link)) (sym (ne-eqb _ _ (c .if1 .left)))
+returns c = c .both .ensures ∙ simp (c .before .uses .ensures, c .before .before .ends-of .ensures)
 
 pub holds-spec : {M : Type 1} → statement M
-holds-spec = tie.close (tie.spec uses-requires returns returns-2)
+holds-spec = tie.close (tie.spec ends-of-requires uses-requires both-requires returns)

@@ -5,13 +5,14 @@ use native.Mathlib.Omega.{arith}
 use borrow.Author.Needs.{needs}
 use lib.ListN.{drop}
 use Rattle.book.specs.Books.{liveOf}
-use Rattle.book.specs.Conflicts.{conflictIn}
+use Rattle.book.specs.Internal.Conflicts.{conflictIn}
 use Rattle.book.proofs.Searches.{conflict-found, conflict-passed, conflict-ended}
 use Rattle.book.proofs.grants.colour_held.Statement.{statement}
 use Rattle.book.proofs.grants.colour_held.Tie as tie
 
 abbrev Inv-loop : tie.InvT-loop
-Inv-loop way request colour book live i₀ i = (i ≤ live) × (conflictIn (liveOf book) way request colour ≡ conflictIn (drop i (liveOf book)) way request colour)
+Inv-loop way request colour book live i₀ i =
+    (i ≤ live) × (conflictIn (liveOf book) way request colour ≡ conflictIn (drop i (liveOf book)) way request colour)
 
 abbrev μ-loop : tie.MeasureT-loop
 μ-loop way request colour book live i₀ i = live - i
@@ -34,7 +35,8 @@ conflicts-requires c κs = search needs
 returns : tie.Need-returns Inv-loop μ-loop
 returns c =
     let l = c .before .before .before .before in
-    sym (l .loop .inv .1 ∙ conflict-found (l .before .before .args .t1) _ _ _ (l .loop .i) (omega arith) (sym (c .before .conflicts .ensures) ∙ c .if1 .taken))
+    sym (l .loop .inv .1 ∙ conflict-found (l .before .before .args .t1) _ _ _ (l .loop .i) (omega arith)
+    (sym (c .before .conflicts .ensures) ∙ c .if1 .taken))
 
 add-i : tie.Need-add-i Inv-loop μ-loop
 add-i c = omega arith
@@ -44,8 +46,12 @@ loop-less c = omega arith
 
 loop-again : tie.Need-loop-again Inv-loop μ-loop
 loop-again c =
-    let l = c .before .before .before .before in
-    (omega arith, l .loop .inv .1 ∙ conflict-passed (l .before .before .args .t1) _ _ _ (l .loop .i) (omega arith) (sym (c .before .conflicts .ensures) ∙ c .if1 .left))
+    let l = c .before .before .before .before in (
+      omega arith,
+      l .loop .inv .1
+          ∙ conflict-passed (l .before .before .args .t1) _ _ _ (l .loop .i) (omega arith) (sym (c .before .conflicts .ensures)
+          ∙ c .if1 .left),
+    )
 
 returns-2 : tie.Need-returns-2 Inv-loop μ-loop
 returns-2 c =

@@ -1,19 +1,22 @@
-use borrow.Author.Tests.{le-leb, lt-leb}
+use borrow.Author.Needs.{needs}
+use mathlib.Core.Path.{_∙_}
 use Rattle.book.specs.Grants.{roomVerdict}
 use Rattle.book.proofs.grants.room_verdict.Statement.{statement}
 use Rattle.book.proofs.grants.room_verdict.Tie as tie
 
+refuse-if-requires : tie.Need-refuse-if-requires
+refuse-if-requires c κs = search needs
+
+refuse-if-requires-2 : tie.Need-refuse-if-requires-2
+refuse-if-requires-2 c κs = search needs
+
+or-else-requires : tie.Need-or-else-requires
+or-else-requires c κs = search needs
+
 returns : tie.Need-returns
 unfolding roomVerdict
-returns c = simp (le-leb _ _ (c .if1 .taken))
-
-returns-2 : tie.Need-returns-2
-unfolding roomVerdict
-returns-2 c = simp (lt-leb _ _ (c .before .if1 .left), le-leb _ _ (c .if2 .taken))
-
-returns-3 : tie.Need-returns-3
-unfolding roomVerdict
-returns-3 c = simp (lt-leb _ _ (c .before .if1 .left), lt-leb _ _ (c .if2 .left))
+returns c = c .or-else .ensures ∙ simp (c .before .refuse-if2 .ensures, c .before .before .refuse-if .ensures)
 
 pub room-verdict-spec : {M : Type 1} → statement M
-room-verdict-spec = tie.close (tie.spec returns returns-2 returns-3)
+room-verdict-spec =
+    tie.close (tie.spec refuse-if-requires refuse-if-requires-2 or-else-requires returns)

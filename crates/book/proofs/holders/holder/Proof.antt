@@ -1,21 +1,45 @@
-use Prim.Native.Nat.{ℕ}
-use mathlib.Core.Path.{_∙_, ap}
-use lib.ListN.{take}
-use native.Mathlib.Omega.{arith}
-use borrow.Author.Tests.{le-leb, lt-leb}
-use Rattle.book.specs.Holders.{heldBy, holderPlace}
-use Rattle.book.proofs.Holding.{answer-held, answer-free}
 use borrow.Author.Needs.{needs}
+use Prim.Native.Nat.{ℕ}
+use mathlib.Core.Path.{_≡_, sym, _∙_, ap}
+use native.Mathlib.Omega.{arith}
+use lib.ListN.{take}
+use Rattle.ring.specs.declared.refusals.Verdict.the-variants.{Allowed}
+use Rattle.book.specs.Holders.{holderVerdict, heldBy}
+use Rattle.book.specs.Internal.Places.{holderPlace}
+use Rattle.book.proofs.Holding.{answer-held, answer-free}
 use Rattle.book.proofs.holders.holder.Statement.{statement}
 use Rattle.book.proofs.holders.holder.Tie as tie
 
-returns : tie.Need-returns
-unfolding heldBy
-returns c = simp (le-leb _ _ (c .if1 .taken))
+-- neither 16 nor 10 is there
+allowed : (c : tie.After-or-else) → c .or-else .result ≡ Allowed
+    → holderVerdict (c .before .before .before .args .t1) (c .before .before .before .args .link) (c .before .before .before .args .colour)
+    ≡ Allowed
+unfolding holderVerdict
+allowed c e = simp (sym (c .before .before .refuse-if .ensures), sym (c .before .refuse-if2 .ensures), sym (c .or-else .ensures), e)
 
-returns-2 : tie.Need-returns-2
-unfolding heldBy
-returns-2 c = simp (lt-leb _ _ (c .before .if1 .left), le-leb _ _ (c .if2 .taken))
+refuse-if-requires : tie.Need-refuse-if-requires
+refuse-if-requires c κs = search needs
+
+refuse-if-requires-2 : tie.Need-refuse-if-requires-2
+refuse-if-requires-2 c κs = search needs
+
+or-else-requires : tie.Need-or-else-requires
+or-else-requires c κs = search needs
+
+enum-known-verdict : tie.Need-enum-known-verdict
+enum-known-verdict c = search needs
+
+returns : tie.Need-returns
+unfolding heldBy holderVerdict
+returns c = simp (
+  sym (c .before .before .before .before .before .refuse-if .ensures),
+  sym (c .before .before .before .before .refuse-if2 .ensures),
+  sym (c .before .before .before .or-else .ensures),
+  c .before .verdict .given .1,
+)
+
+enum-told : tie.Need-enum-told
+enum-told c = search needs
 
 live-count-requires : tie.Need-live-count-requires
 live-count-requires c κs = search needs
@@ -29,33 +53,40 @@ mul-circuit c = search needs
 element-copy-out-circuit : tie.Need-element-copy-out-circuit
 element-copy-out-circuit c = search needs
 
+returns-2 : tie.Need-returns-2
+returns-2 c =
+    let search = c .before .before in
+    let count = c .before .before .before .before in
+    let s = c .before .before .before .before .before .before .before .before .before .before .args in
+    answer-held (s .t1) (s .link) (s .colour) (search .holder-search .result)
+    (allowed (c .before .before .before .before .before .before .before)
+    (c .before .before .before .before .before .enum-told .given .1))
+    (search .holder-search .ensures
+    ∙ ap (λ (m : ℕ). holderPlace 0 (take m (s .t1 .places)) (s .link) (s .colour)) (count .live-count .ensures .0)) (omega arith)
+
 returns-3 : tie.Need-returns-3
 returns-3 c =
-    let search = c .before .before in
-    let count = search .before .before in
-    let start = count .before .before .before in
-    let s = start .args in
-    answer-held (s .t1) (s .link) (s .colour) (search .holder-search .result) (omega arith) (omega arith)
-    (search .holder-search .ensures ∙ ap (λ (m : ℕ). holderPlace 0 (take m (s .t1 .places)) (s .link) (s .colour)) (count .live-count .ensures .0)) (omega arith)
-
-returns-4 : tie.Need-returns-4
-returns-4 c =
     let search = c .before in
-    let count = search .before .before in
-    let start = count .before .before .before in
-    let s = start .args in
-    answer-free (s .t1) (s .link) (s .colour) (search .holder-search .result) (omega arith) (omega arith)
-    (search .holder-search .ensures ∙ ap (λ (m : ℕ). holderPlace 0 (take m (s .t1 .places)) (s .link) (s .colour)) (count .live-count .ensures .0)) (omega arith)
+    let count = c .before .before .before in
+    let s = c .before .before .before .before .before .before .before .before .before .args in
+    answer-free (s .t1) (s .link) (s .colour) (search .holder-search .result)
+    (allowed (c .before .before .before .before .before .before) (c .before .before .before .before .enum-told .given .1))
+    (search .holder-search .ensures
+    ∙ ap (λ (m : ℕ). holderPlace 0 (take m (s .t1 .places)) (s .link) (s .colour)) (count .live-count .ensures .0)) (omega arith)
 
 pub holder-spec : {M : Type 1} → statement M
 holder-spec =
     tie.close
     (tie.spec
+    refuse-if-requires
+    refuse-if-requires-2
+    or-else-requires
+    enum-known-verdict
     returns
-    returns-2
+    enum-told
     live-count-requires
     holder-search-requires
     mul-circuit
     element-copy-out-circuit
-    returns-3
-    returns-4)
+    returns-2
+    returns-3)

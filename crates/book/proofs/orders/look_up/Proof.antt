@@ -23,7 +23,8 @@ returns-2 : tie.Need-returns-2
 unfolding lookup
 returns-2 c =
     let s = c .before .before .before .args in
-    c .find .ensures ∙ ap (λ (t : Bool). cond t Missing (lookupIn 0 (liveOf (s .book)) (s .serial))) (sym (c .before .if1 .left) ∙ c .before .before .never-given .ensures)
+    c .find .ensures ∙ ap (λ (t : Bool). cond t Missing (lookupIn 0 (liveOf (s .book)) (s .serial))) (sym (c .before .if1 .left)
+    ∙ c .before .before .never-given .ensures)
 
 pub look-up-spec : {M : Type 1} → statement M
 look-up-spec = tie.close (tie.spec never-given-requires returns find-requires returns-2)

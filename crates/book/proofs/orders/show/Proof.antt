@@ -23,13 +23,15 @@ unfolding shown
 returns c =
     let s = c .before .before .before .before .args in
     ap Refused (c .missing .ensures)
-    ∙ ap (λ (l : Lookup). showFound l (missing (s .book) (s .serial))) (sym (c .before .enum-told .given .1) ∙ c .before .before .before .look-up .ensures)
+    ∙ ap (λ (l : Lookup). showFound l (missing (s .book) (s .serial))) (sym (c .before .enum-told .given .1)
+    ∙ c .before .before .before .look-up .ensures)
 
 returns-2 : tie.Need-returns-2
 unfolding shown
 returns-2 c =
     let s = c .before .before .before .before .args in
-    ap (λ (l : Lookup). showFound l (missing (s .book) (s .serial))) (sym (c .before .circuit .given .1) ∙ c .before .before .before .look-up .ensures)
+    ap (λ (l : Lookup). showFound l (missing (s .book) (s .serial))) (sym (c .before .circuit .given .1)
+    ∙ c .before .before .before .look-up .ensures)
 
 pub show-spec : {M : Type 1} → statement M
 show-spec =

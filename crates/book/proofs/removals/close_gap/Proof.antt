@@ -46,8 +46,12 @@ loop-less c = omega arith
 loop-again : tie.Need-loop-again Inv-loop μ-loop
 loop-again c =
     let l = c .before .before in
-    let s = l .before .before in
-    (omega arith, omega arith, shifted-next (s .args .book) (s .args .place) (omega arith) (l .loop .changed) (l .loop .i) (l .loop .inv .2) (omega arith) (omega arith))
+    let s = l .before .before in (
+      omega arith,
+      omega arith,
+      shifted-next (s .args .book) (s .args .place) (omega arith) (l .loop .changed) (l .loop .i) (l .loop .inv .2) (omega arith)
+          (omega arith),
+    )
 
 vacant-requires : tie.Need-vacant-requires Inv-loop μ-loop
 vacant-requires c κs = search needs

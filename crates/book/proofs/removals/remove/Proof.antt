@@ -28,19 +28,22 @@ unfolding removed
 returns c =
     let s = c .before .before .before .before .args in
     ap (λ (r : Refusal). record { answer = answer.Refused r; book = s .book }) (c .missing .ensures)
-    ∙ ap (λ (l : Lookup). removeFound l (missing (s .book) (s .serial)) (s .book)) (sym (c .before .enum-told .given .1) ∙ c .before .before .before .look-up .ensures)
+    ∙ ap (λ (l : Lookup). removeFound l (missing (s .book) (s .serial)) (s .book)) (sym (c .before .enum-told .given .1)
+    ∙ c .before .before .before .look-up .ensures)
 
 close-gap-requires : tie.Need-close-gap-requires
 close-gap-requires c κs =
     let s = c .before .before .before .before .args in
-    found-place (s .book) (s .serial) (c .before .place .given .0 .0) _ (sym (c .before .before .before .look-up .ensures) ∙ c .before .place .given .1)
+    found-place (s .book) (s .serial) (c .before .place .given .0 .0) _ (sym (c .before .before .before .look-up .ensures)
+    ∙ c .before .place .given .1)
 
 returns-2 : tie.Need-returns-2
 unfolding removed
 returns-2 c =
     let s = c .before .before .before .before .before .args in
     ap (λ (d : Book). record { answer = answer.Removed; book = d }) (c .close-gap .ensures)
-    ∙ ap (λ (l : Lookup). removeFound l (missing (s .book) (s .serial)) (s .book)) (sym (c .before .before .place .given .1) ∙ c .before .before .before .before .look-up .ensures)
+    ∙ ap (λ (l : Lookup). removeFound l (missing (s .book) (s .serial)) (s .book)) (sym (c .before .before .place .given .1)
+    ∙ c .before .before .before .before .look-up .ensures)
 
 pub remove-spec : {M : Type 1} → statement M
 remove-spec =

@@ -15,7 +15,8 @@ returns : tie.Need-returns
 returns c =
     let found = c .before .before .greatest in
     let s = c .before .before .before in
-    unused-is-pick (s .args .latest .now) (s .args .used) (s .args .w) (s .pre .2) (s .args .a) (found .result) (omega arith) (found .ensures) (c .unused .result) (c .before .if1 .taken) (c .unused .ensures)
+    unused-is-pick (s .args .latest .now) (s .args .used) (s .args .w) (s .pre .2) (s .args .a) (found .result) (omega arith)
+    (found .ensures) (c .unused .result) (c .before .if1 .taken) (c .unused .ensures)
 
 first-with-requires : tie.Need-first-with-requires
 first-with-requires c κs = search needs
@@ -24,7 +25,8 @@ returns-2 : tie.Need-returns-2
 returns-2 c =
     let found = c .before .before .greatest in
     let s = c .before .before .before in
-    used-is-pick (s .args .latest .now) (s .args .used) (s .args .w) (s .pre .2) (s .args .a) (found .result) (omega arith) (found .ensures) (c .first-with .result) (c .before .if1 .left) (c .first-with .ensures)
+    used-is-pick (s .args .latest .now) (s .args .used) (s .args .w) (s .pre .2) (s .args .a) (found .result) (omega arith) (found .ensures)
+    (c .first-with .result) (c .before .if1 .left) (c .first-with .ensures)
 
 pub best-spec : {M : Type 1} → statement M
 best-spec =

@@ -3,15 +3,15 @@ use Prim.Native.Nat.{_≤_, _-_}
 use mathlib.Core.Path.{_≡_}
 use native.Mathlib.Omega.{arith}
 use borrow.Author.Count.{below-none, below-more}
-use Rattle.chain.specs.Walk.{NoneWith}
+use Rattle.chain.specs.Internal.Walk.{NoneWith}
 use Rattle.chain.proofs.rule.first_with.Statement.{statement}
 use Rattle.chain.proofs.rule.first_with.Tie as tie
 
 abbrev Inv-loop : tie.InvT-loop
-Inv-loop latest w end c₀ c = (c ≤ w) × NoneWith latest c end
+Inv-loop latest w end colour₀ colour = (colour ≤ w) × NoneWith latest colour end
 
 abbrev μ-loop : tie.MeasureT-loop
-μ-loop latest w end c₀ c = w - c
+μ-loop latest w end colour₀ colour = w - colour
 
 loop-holds : tie.Need-loop-holds Inv-loop μ-loop
 loop-holds c = (omega arith, below-none _)
@@ -25,8 +25,8 @@ element-copy-out-if1 c = omega arith
 returns : tie.Need-returns Inv-loop μ-loop
 returns c = (omega arith, omega arith, c .before .before .before .loop .inv .1)
 
-add-c : tie.Need-add-c Inv-loop μ-loop
-add-c c = omega arith
+add-colour : tie.Need-add-colour Inv-loop μ-loop
+add-colour c = omega arith
 
 loop-less : tie.Need-loop-less Inv-loop μ-loop
 loop-less c = omega arith
@@ -37,7 +37,7 @@ loop-again c = (omega arith, below-more _ _ (c .before .before .before .loop .in
 returns-2 : tie.Need-returns-2 Inv-loop μ-loop
 returns-2 c =
     let here = c .before .loop in
-    let all : here .c ≡ c .before .before .args .w = omega arith in
+    let all : here .colour ≡ c .before .before .args .w = omega arith in
     rw all at (here .inv .1)
 
 pub first-with-spec : {M : Type 1} → statement M
@@ -50,7 +50,7 @@ first-with-spec =
     mul-if1
     element-copy-out-if1
     returns
-    add-c
+    add-colour
     loop-less
     loop-again
     returns-2)

@@ -4,7 +4,7 @@ use mathlib.Core.Logic.{⊎-elim}
 use mathlib.Core.Path.{_≡_, refl}
 use native.Mathlib.Omega.{arith}
 use borrow.Author.Count.{below-none}
-use Rattle.chain.specs.Walk.{Greatest}
+use Rattle.chain.specs.Internal.Walk.{Greatest}
 use Rattle.chain.proofs.BestTurns.{greatest-turn}
 use Rattle.chain.proofs.rule.greatest.Statement.{statement}
 use Rattle.chain.proofs.rule.greatest.Tie as tie
@@ -37,8 +37,11 @@ loop-again : tie.Need-loop-again Inv-loop μ-loop
 loop-again c =
     let here = c .before .before .before .before .loop in
     let start = c .before .before .before .before .before in
-    let top : c .if1 .top ≡ max (here .top) (c .before .fitting .result) = ⊎-elim (λ v. omega arith) (λ v. omega arith) (c .if1 .came) in
-    (omega arith, greatest-turn (start .args .latest .now) (here .c) (start .args .a) (here .top) (c .before .fitting .result) (c .if1 .top) (c .before .fitting .ensures) top (here .inv .1))
+    let top : c .if1 .top ≡ max (here .top) (c .before .fitting .result) = ⊎-elim (λ v. omega arith) (λ v. omega arith) (c .if1 .came) in (
+      omega arith,
+      greatest-turn (start .args .latest .now) (here .c) (start .args .a) (here .top) (c .before .fitting .result) (c .if1 .top)
+          (c .before .fitting .ensures) top (here .inv .1),
+    )
 
 returns : tie.Need-returns Inv-loop μ-loop
 returns c =

@@ -4,7 +4,7 @@ use mathlib.Core.Path.{sym, ap, subst}
 use native.Mathlib.Omega.{arith}
 use borrow.Author.Needs.{needs}
 use Rattle.chain.specs.declared.rule.Pick.{Pick}
-use Rattle.chain.specs.Rule.{after, Below}
+use Rattle.chain.specs.Rule.{withPick, Below}
 use Rattle.chain.proofs.rule.put.Statement.{statement}
 use Rattle.chain.proofs.rule.put.Tie as tie
 
@@ -26,7 +26,7 @@ enum-told c = search needs
 returns : tie.Need-returns
 returns c =
     let a = c .before .before .before .args in
-    sym (ap (λ (p : Pick). after (a .latest .now) p (a .b)) (c .before .pick .given .1))
+    sym (ap (λ (p : Pick). withPick (a .latest .now) p (a .b)) (c .before .pick .given .1))
 
 returns-2 : tie.Need-returns-2
 returns-2 c = search needs

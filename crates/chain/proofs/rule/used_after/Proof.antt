@@ -4,7 +4,7 @@ use native.Mathlib.Omega.{arith}
 use borrow.Author.Needs.{needs}
 use Rattle.chain.specs.declared.rule.Pick.{Pick}
 use Rattle.chain.specs.Rule.{Below}
-use Rattle.chain.specs.Walk.{usedAfter}
+use Rattle.chain.specs.Internal.Walk.{usedAfter}
 use Rattle.chain.proofs.rule.used_after.Statement.{statement}
 use Rattle.chain.proofs.rule.used_after.Tie as tie
 

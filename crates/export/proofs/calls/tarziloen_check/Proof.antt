@@ -1,6 +1,6 @@
-use mathlib.Core.Path.{sym, _∙_, ap}
-use Rattle.checker.specs.declared.CheckAnswer.{CheckAnswer}
-use Rattle.export.specs.Values.{checkResult, checkValues}
+use mathlib.Core.Path.{refl, sym, _∙_, ap}
+use Rattle.checker.specs.Check.{checkInNumbers}
+use Rattle.export.proofs.OutcomeLaws.{answered-as}
 use borrow.Author.Needs.{needs}
 use Rattle.export.proofs.calls.tarziloen_check.Statement.{statement}
 use Rattle.export.proofs.calls.tarziloen_check.Tie as tie
@@ -28,9 +28,8 @@ returns c =
     let put = c .before .before in
     let answer = put .before .before .before in
     let check = answer .before .before in
-    let values = check .before .before .before .before .args .values .now in
     let e = sym (answer .answer .given .1) ∙ check .check .ensures in
-    (ap checkResult e, put .put .ensures ∙ ap (λ (a : CheckAnswer). checkValues a values) e)
+    answered-as (ap checkInNumbers e) (record { numbered = refl; filled = put .put .ensures })
 
 same-length-2 : tie.Need-same-length-2
 same-length-2 c = search needs
@@ -40,9 +39,8 @@ returns-2 c =
     let refused = c .before .before in
     let answer = refused .before .before .before in
     let check = answer .before .before in
-    let values = check .before .before .before .before .args .values .now in
     let e = sym (answer .answer2 .given .1) ∙ check .check .ensures in
-    (refused .refused .ensures .0 ∙ ap checkResult e, refused .refused .ensures .1 ∙ ap (λ (a : CheckAnswer). checkValues a values) e)
+    answered-as (ap checkInNumbers e) (refused .refused .ensures)
 
 pub tarziloen-check-spec : {M : Type 1} → statement M
 tarziloen-check-spec =

@@ -1,6 +1,6 @@
-use mathlib.Core.Path.{sym, _∙_, ap}
-use Rattle.planner.specs.declared.answers.PlanAnswer.{PlanAnswer}
-use Rattle.export.specs.Values.{planResult, planValues}
+use mathlib.Core.Path.{refl, sym, ap}
+use Rattle.planner.specs.Plan.{planInNumbers}
+use Rattle.export.proofs.OutcomeLaws.{answered-as}
 use borrow.Author.Needs.{needs}
 use Rattle.export.proofs.calls.tarziloen_plan.Statement.{statement}
 use Rattle.export.proofs.calls.tarziloen_plan.Tie as tie
@@ -31,13 +31,11 @@ returns c =
     let put = c .before .before in
     let answer = put .before .before .before in
     let plan = answer .before .before .before .before in
-    let values = plan .before .before .before .before .before .args .values .now in
     let e = sym (answer .answer .given .1) in
     record {
       answer = plan .plan .result;
       promise = plan .plan .ensures;
-      numbered = ap planResult e;
-      filled = put .put-summary .ensures ∙ ap (λ (a : PlanAnswer). planValues a values) e;
+      answered = answered-as (ap planInNumbers e) (record { numbered = refl; filled = put .put-summary .ensures });
     }
 
 same-length-3 : tie.Need-same-length-3
@@ -51,13 +49,11 @@ returns-2 c =
     let refused = c .before .before in
     let answer = refused .before .before .before in
     let plan = answer .before .before .before .before in
-    let values = plan .before .before .before .before .before .args .values .now in
     let e = sym (answer .answer2 .given .1) in
     record {
       answer = plan .plan .result;
       promise = plan .plan .ensures;
-      numbered = refused .refused .ensures .0 ∙ ap planResult e;
-      filled = refused .refused .ensures .1 ∙ ap (λ (a : PlanAnswer). planValues a values) e;
+      answered = answered-as (ap planInNumbers e) (refused .refused .ensures);
     }
 
 pub tarziloen-plan-spec : {M : Type 1} → statement M

@@ -1,4 +1,4 @@
-use Rattle.export.proofs.OutcomeLaws.{changed-as, refused-change, by-grant}
+use Rattle.export.proofs.OutcomeLaws.{by-grant, changed-as, grant-refused, refused-change}
 use borrow.Author.Needs.{needs}
 use Rattle.export.proofs.changes.grant_in.Statement.{statement}
 use Rattle.export.proofs.changes.grant_in.Tie as tie
@@ -31,7 +31,8 @@ returns c =
     let grant = told .before .before in
     let start = grant .before .before .before in
     let s = start .args in
-    changed-as (by-grant (s .book) (s .x) (s .y) (s .way) (s .colour) (s .buffer .now) (grant .grant .ensures (start .pre)) (told .answer .given .1)) (keep .keep-granted .ensures)
+    changed-as (by-grant (s .book) (s .x) (s .y) (s .way) (s .colour) (s .buffer .now) (grant .grant .ensures .valid (start .pre))
+    (told .answer .given .1)) (keep .keep-granted .ensures)
 
 same-length-3 : tie.Need-same-length-3
 same-length-3 c = search needs
@@ -43,7 +44,9 @@ returns-2 c =
     let grant = told .before .before in
     let start = grant .before .before .before in
     let s = start .args in
-    changed-as (by-grant (s .book) (s .x) (s .y) (s .way) (s .colour) (s .buffer .now) (grant .grant .ensures (start .pre)) (told .answer2 .given .1)) (refused-change (refused .refused .ensures))
+    refused-change (told .answer2 .given .0 .0)
+    (grant-refused (told .answer2 .given .0 .0) (s .book) (s .x) (s .y) (s .way) (s .colour) (s .buffer .now)
+    (grant .grant .ensures .valid (start .pre)) (told .answer2 .given .1)) (refused .refused .ensures)
 
 pub grant-in-spec : {M : Type 1} → statement M
 grant-in-spec =

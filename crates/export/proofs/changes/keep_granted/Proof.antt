@@ -36,7 +36,8 @@ returns c =
     let answer = first .before .before .before in
     let store = answer .before .before .before .before in
     let s = store .before .before .before .before .args in
-    stored-change (s .serial ∷ []) (s .book) (s .buffer .now) (store .store .ensures) (answer .answer .given .1) (second .put2 .ensures ∙ (rw (first .put .ensures)))
+    stored-change (s .serial ∷ []) (s .book) (s .buffer .now) (store .store .ensures) (answer .answer .given .1) (second .put2 .ensures
+    ∙ (rw (first .put .ensures)))
 
 same-length-3 : tie.Need-same-length-3
 same-length-3 c = search needs

@@ -1,4 +1,4 @@
-use Rattle.export.proofs.OutcomeLaws.{changed-as, refused-change, by-remove}
+use Rattle.export.proofs.OutcomeLaws.{by-remove, changed-as, refused-change, remove-refused}
 use borrow.Author.Needs.{needs}
 use Rattle.export.proofs.changes.remove_in.Statement.{statement}
 use Rattle.export.proofs.changes.remove_in.Tie as tie
@@ -30,7 +30,8 @@ returns c =
     let told = keep .before .before .before .before in
     let remove = told .before .before in
     let s = remove .before .before .before .args in
-    changed-as (by-remove (s .book) (s .serial) (s .buffer .now) (remove .remove .ensures) (told .enum-told .given .1)) (keep .keep .ensures)
+    changed-as (by-remove (s .book) (s .serial) (s .buffer .now) (remove .remove .ensures) (told .enum-told .given .1))
+    (keep .keep .ensures)
 
 same-length-3 : tie.Need-same-length-3
 same-length-3 c = search needs
@@ -41,7 +42,9 @@ returns-2 c =
     let told = refused .before .before .before in
     let remove = told .before .before in
     let s = remove .before .before .before .args in
-    changed-as (by-remove (s .book) (s .serial) (s .buffer .now) (remove .remove .ensures) (told .answer .given .1)) (refused-change (refused .refused .ensures))
+    refused-change (told .answer .given .0 .0)
+    (remove-refused (told .answer .given .0 .0) (s .book) (s .serial) (s .buffer .now) (remove .remove .ensures)
+    (told .answer .given .1)) (refused .refused .ensures)
 
 pub remove-in-spec : {M : Type 1} → statement M
 remove-in-spec =

@@ -1,4 +1,4 @@
-use Rattle.export.proofs.OutcomeLaws.{changed-as, refused-change, by-open}
+use Rattle.export.proofs.OutcomeLaws.{by-open, changed-as, open-refused, refused-change}
 use borrow.Author.Needs.{needs}
 use Rattle.export.proofs.changes.tarziloen_book_open.Statement.{statement}
 use Rattle.export.proofs.changes.tarziloen_book_open.Tie as tie
@@ -41,7 +41,9 @@ returns-2 c =
     let told = refused .before .before .before in
     let open-call = told .before .before in
     let s = open-call .before .before .before .args in
-    changed-as (by-open (s .n) (s .w) (s .buffer .now) (open-call .«open» .ensures) (told .answer .given .1)) (refused-change (refused .refused .ensures))
+    refused-change (told .answer .given .0 .0)
+    (open-refused (told .answer .given .0 .0) (s .n) (s .w) (s .buffer .now) (open-call .«open» .ensures) (told .answer .given .1))
+    (refused .refused .ensures)
 
 pub tarziloen-book-open-spec : {M : Type 1} → statement M
 tarziloen-book-open-spec =

@@ -1,6 +1,6 @@
 use Rattle.book.specs.declared.books.Book.{Book}
-use Rattle.export.specs.BookCalls.{front, removeOn, removeCall}
-use Rattle.export.proofs.OutcomeLaws.{changed-as, refused-change, by-load}
+use Rattle.export.specs.BookCalls.{removeOn, removeCall}
+use Rattle.export.proofs.OutcomeLaws.{by-load, changed-as, load-refused, refused-change}
 use borrow.Author.Needs.{needs}
 use Rattle.export.proofs.changes.tarziloen_book_remove.Statement.{statement}
 use Rattle.export.proofs.changes.tarziloen_book_remove.Tie as tie
@@ -33,7 +33,8 @@ returns c =
     let told = done .before .before .before .before in
     let load = told .before .before in
     let s = load .before .before .before .before .args in
-    changed-as (by-load (front (s .length) (s .buffer .now)) (λ (b : Book). removeOn b (s .serial) (s .buffer .now)) (load .load-front .ensures) (told .enum-told .given .1)) (done .remove-in .ensures)
+    changed-as (by-load (s .buffer .now) (s .length) (λ (b : Book). removeOn b (s .serial) (s .buffer .now)) (load .load-front .ensures)
+    (told .enum-told .given .1)) (done .remove-in .ensures)
 
 same-length-3 : tie.Need-same-length-3
 same-length-3 c = search needs
@@ -48,7 +49,9 @@ returns-2 c =
     let told = refused .before .before .before in
     let load = told .before .before in
     let s = load .before .before .before .before .args in
-    changed-as (by-load (front (s .length) (s .buffer .now)) (λ (b : Book). removeOn b (s .serial) (s .buffer .now)) (load .load-front .ensures) (told .answer .given .1)) (refused-change (refused .refused .ensures))
+    refused-change (told .answer .given .0 .0)
+    (load-refused (told .answer .given .0 .0) (s .buffer .now) (s .length) (λ (b : Book). removeOn b (s .serial) (s .buffer .now))
+    (load .load-front .ensures) (told .answer .given .1)) (refused .refused .ensures)
 
 pub tarziloen-book-remove-spec : {M : Type 1} → statement M
 tarziloen-book-remove-spec =

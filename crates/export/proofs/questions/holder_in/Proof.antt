@@ -1,6 +1,6 @@
 use mathlib.Core.Path.{refl, sym, _∙_, ap}
-use Rattle.export.specs.BookCalls.{holderOutcome}
-use Rattle.export.proofs.OutcomeLaws.{answered-as, refused-answer}
+use Rattle.book.specs.Holders.{holderInNumbers}
+use Rattle.export.proofs.OutcomeLaws.{answered-as}
 use borrow.Author.Needs.{needs}
 use Rattle.export.proofs.questions.holder_in.Statement.{statement}
 use Rattle.export.proofs.questions.holder_in.Tie as tie
@@ -33,7 +33,8 @@ returns : tie.Need-returns
 returns c =
     let put = c .before .before in
     let told = put .before .before in
-    answered-as (ap holderOutcome (sym (told .enum-told .given .1) ∙ told .before .before .holder .ensures)) (record { numbered = refl; filled = put .put .ensures })
+    answered-as (ap holderInNumbers (sym (told .enum-told .given .1) ∙ told .before .before .holder .ensures))
+    (record { numbered = refl; filled = put .put .ensures })
 
 same-length-2 : tie.Need-same-length-2
 same-length-2 c = search needs
@@ -42,7 +43,8 @@ returns-2 : tie.Need-returns-2
 returns-2 c =
     let put = c .before .before in
     let answer = put .before .before .before in
-    answered-as (ap holderOutcome (sym (answer .answer .given .1) ∙ answer .before .before .holder .ensures)) (record { numbered = refl; filled = put .put2 .ensures })
+    answered-as (ap holderInNumbers (sym (answer .answer .given .1) ∙ answer .before .before .holder .ensures))
+    (record { numbered = refl; filled = put .put2 .ensures })
 
 same-length-3 : tie.Need-same-length-3
 same-length-3 c = search needs
@@ -51,7 +53,7 @@ returns-3 : tie.Need-returns-3
 returns-3 c =
     let refused = c .before .before in
     let answer = refused .before .before .before in
-    answered-as (ap holderOutcome (sym (answer .answer2 .given .1) ∙ answer .before .before .holder .ensures)) (refused-answer (refused .refused .ensures))
+    answered-as (ap holderInNumbers (sym (answer .answer2 .given .1) ∙ answer .before .before .holder .ensures)) (refused .refused .ensures)
 
 pub holder-in-spec : {M : Type 1} → statement M
 holder-in-spec =

@@ -1,6 +1,6 @@
 use mathlib.Core.Path.{refl, sym, _∙_, ap}
-use Rattle.export.specs.BookCalls.{showOutcome}
-use Rattle.export.proofs.OutcomeLaws.{answered-as, refused-answer}
+use Rattle.book.specs.Orders.{showInNumbers}
+use Rattle.export.proofs.OutcomeLaws.{answered-as}
 use borrow.Author.Needs.{needs}
 use Rattle.export.proofs.questions.show_in.Statement.{statement}
 use Rattle.export.proofs.questions.show_in.Tie as tie
@@ -27,7 +27,8 @@ returns : tie.Need-returns
 returns c =
     let put = c .before .before in
     let answer = put .before .before .before in
-    answered-as (ap showOutcome (sym (answer .answer .given .1) ∙ answer .before .before .show .ensures)) (record { numbered = refl; filled = put .put-circuit .ensures })
+    answered-as (ap showInNumbers (sym (answer .answer .given .1) ∙ answer .before .before .show .ensures))
+    (record { numbered = refl; filled = put .put-circuit .ensures })
 
 same-length-2 : tie.Need-same-length-2
 same-length-2 c = search needs
@@ -36,7 +37,7 @@ returns-2 : tie.Need-returns-2
 returns-2 c =
     let refused = c .before .before in
     let answer = refused .before .before .before in
-    answered-as (ap showOutcome (sym (answer .answer2 .given .1) ∙ answer .before .before .show .ensures)) (refused-answer (refused .refused .ensures))
+    answered-as (ap showInNumbers (sym (answer .answer2 .given .1) ∙ answer .before .before .show .ensures)) (refused .refused .ensures)
 
 pub show-in-spec : {M : Type 1} → statement M
 show-in-spec =

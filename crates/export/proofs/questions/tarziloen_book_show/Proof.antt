@@ -1,7 +1,7 @@
 use Rattle.book.specs.declared.books.Book.{Book}
-use Rattle.book.specs.Orders.{shown}
-use Rattle.export.specs.BookCalls.{showOutcome, showCall}
-use Rattle.export.proofs.OutcomeLaws.{answered-as, refused-answer, by-load}
+use Rattle.book.specs.Orders.{shown, showInNumbers}
+use Rattle.export.specs.BookCalls.{showCall}
+use Rattle.export.proofs.OutcomeLaws.{answered-as, asking-refused, by-asking}
 use borrow.Author.Needs.{needs}
 use Rattle.export.proofs.questions.tarziloen_book_show.Statement.{statement}
 use Rattle.export.proofs.questions.tarziloen_book_show.Tie as tie
@@ -31,7 +31,8 @@ returns c =
     let told = answer .before .before .before in
     let load = told .before .before in
     let s = load .before .before .before .args in
-    answered-as (by-load (s .bytes .now) (λ (b : Book). showOutcome (shown b (s .serial))) (load .load .ensures) (told .enum-told .given .1)) (answer .show-in .ensures)
+    answered-as (by-asking (s .bytes .now) (λ (b : Book). showInNumbers (shown b (s .serial))) (load .load .ensures)
+    (told .enum-told .given .1)) (answer .show-in .ensures)
 
 same-length-2 : tie.Need-same-length-2
 same-length-2 c = search needs
@@ -43,7 +44,8 @@ returns-2 c =
     let told = refused .before .before .before in
     let load = told .before .before in
     let s = load .before .before .before .args in
-    answered-as (by-load (s .bytes .now) (λ (b : Book). showOutcome (shown b (s .serial))) (load .load .ensures) (told .answer .given .1)) (refused-answer (refused .refused .ensures))
+    answered-as (asking-refused (told .answer .given .0 .0) (s .bytes .now) (λ (b : Book). showInNumbers (shown b (s .serial)))
+    (load .load .ensures) (told .answer .given .1)) (refused .refused .ensures)
 
 pub tarziloen-book-show-spec : {M : Type 1} → statement M
 tarziloen-book-show-spec =

@@ -3,7 +3,8 @@ use mathlib.Core.List.{List}
 use Prim.Native.Nat.{ℕ}
 use lib.ListN.{set}
 use Rattle.ring.specs.declared.refusals.Carried.{Carried}
-use Rattle.export.specs.Values.{carriedIn}
+use Rattle.ring.specs.Answers.{carriedValues}
+use Rattle.export.specs.Outcomes.{putFrom}
 use borrow.Author.Needs.{needs}
 use Rattle.export.proofs.values.put_carried.Statement.{statement}
 use Rattle.export.proofs.values.put_carried.Tie as tie
@@ -36,7 +37,7 @@ returns-2 : tie.Need-returns-2
 returns-2 c =
     let put = c .before .before in
     let values = put .before .before .before .before .before .before .args .values .now in
-    put .put .ensures ∙ ap (λ (d : Carried). carriedIn d values) (sym (put .before .before .before .carried .given .1))
+    put .put .ensures ∙ ap (λ (d : Carried). putFrom 0 (carriedValues d) values) (sym (put .before .before .before .carried .given .1))
 
 same-length-2 : tie.Need-same-length-2
 same-length-2 c = search needs
@@ -48,7 +49,7 @@ returns-3 c =
     let values = first .before .before .before .before .before .before .args .values .now in
     let told = first .before .before .before .carried2 .given in
     let stored = second .put3 .ensures ∙ ap (λ (l : List ℕ). set l 1 (told .0 .1 .0)) (first .put2 .ensures) in
-    stored ∙ ap (λ (d : Carried). carriedIn d values) (sym (told .1))
+    stored ∙ ap (λ (d : Carried). putFrom 0 (carriedValues d) values) (sym (told .1))
 
 pub put-carried-spec : {M : Type 1} → statement M
 put-carried-spec =

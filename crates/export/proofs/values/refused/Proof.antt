@@ -1,6 +1,7 @@
 use mathlib.Core.Path.{_∙_, ap}
 use Rattle.ring.specs.declared.refusals.Carried.{Carried}
-use Rattle.export.specs.Values.{carriedIn}
+use Rattle.ring.specs.Answers.{carriedValues}
+use Rattle.export.specs.Outcomes.{putFrom}
 use borrow.Author.Needs.{needs}
 use Rattle.export.proofs.values.refused.Statement.{statement}
 use Rattle.export.proofs.values.refused.Tie as tie
@@ -21,7 +22,10 @@ returns : tie.Need-returns
 returns c =
     let put = c .before .before .before in
     let values = put .before .before .before .before .args .values .now in
-    (c .number .ensures, put .put-carried .ensures ∙ ap (λ (d : Carried). carriedIn d values) (put .before .carried-by .ensures))
+    record {
+      numbered = c .number .ensures;
+      filled = put .put-carried .ensures ∙ ap (λ (d : Carried). putFrom 0 (carriedValues d) values) (put .before .carried-by .ensures);
+    }
 
 pub refused-spec : {M : Type 1} → statement M
 refused-spec =

@@ -3,7 +3,7 @@ use Prim.Native.Nat.{_+_, _-_, _≤_}
 use mathlib.Core.Path.{_≡_}
 use mathlib.Core.Logic.{⊎-elim}
 use native.Mathlib.Omega.{arith}
-use Rattle.matching.specs.Steps.{Promoted}
+use Rattle.matching.specs.Internal.Steps.{Promoted}
 use Rattle.matching.proofs.PromoteLaws.{promoted-none, promoted-skip, promoted-room, promoted-take, promoted-between}
 use Rattle.matching.proofs.blossoms.promote.Statement.{statement}
 use Rattle.matching.proofs.blossoms.promote.Tie as tie
@@ -19,8 +19,11 @@ next-requires c κs = (c .pre .0, omega arith, c .pre .4)
 
 loop-holds : tie.Need-loop-holds Inv-loop μ-loop
 loop-holds c =
-    let next = c .next .ensures in
-    (next .1, promoted-between _ _ _ _ _ _ _ _ _ _ (promoted-none _ _ _ _ _) (omega arith) (next .1) (λ z h l. c .before .pre .5 z (omega (arith, next .1)) (next .2 z h l)))
+    let next = c .next .ensures in (
+      next .1,
+      promoted-between _ _ _ _ _ _ _ _ _ _ (promoted-none _ _ _ _ _) (omega arith) (next .1)
+          (λ z h l. c .before .pre .5 z (omega (arith, next .1)) (next .2 z h l)),
+    )
 
 element-copy-out-if1 : tie.Need-element-copy-out-if1 Inv-loop μ-loop
 element-copy-out-if1 c = omega arith
@@ -66,10 +69,13 @@ loop-again c =
     let start = head .before .before in
     let P = head .loop .inv .1 in
     let next = c .next2 .ensures in
-    let taken : Promoted (start .args .m) (head .loop .z + 1) (start .args .sides .now) (start .args .labels .now) (start .args .queue .now) (start .args .clock) (c .before .if1 .labels) (c .before .if1 .queue) (c .before .if1 .k) =
+    let taken : Promoted (start .args .m) (head .loop .z + 1) (start .args .sides .now) (start .args .labels .now) (start .args .queue .now)
+    (start .args .clock) (c .before .if1 .labels) (c .before .if1 .queue) (c .before .if1 .k) =
     ⊎-elim
     (λ w. let room = promoted-room _ _ _ _ _ _ _ _ _ P (omega arith) (w .0 .taken) (start .pre .1) in
-    rw (w .1, w .2, w .3) (promoted-take _ _ _ _ _ _ _ _ _ P (omega arith) (w .0 .taken) (omega (arith, P .labels-length, start .pre .2)) (omega (arith, P .queue-length, start .pre .3))))
+    rw (w .1, w .2, w .3)
+    (promoted-take _ _ _ _ _ _ _ _ _ P (omega arith) (w .0 .taken) (omega (arith, P .labels-length, start .pre .2))
+    (omega (arith, P .queue-length, start .pre .3))))
     (λ w. rw (w .1, w .2, w .3) (promoted-skip _ _ _ _ _ _ _ _ _ P (omega arith) (w .0 .left)))
     (c .before .if1 .came) in (
       next .1,

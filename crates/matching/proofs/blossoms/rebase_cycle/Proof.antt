@@ -4,7 +4,7 @@ use mathlib.Core.Path.{_≡_, refl}
 use mathlib.Core.Bool.{true}
 use native.Mathlib.Omega.{arith}
 use Rattle.sets.specs.Sets.{has}
-use Rattle.matching.specs.Bases.{hasBelow, Rebased}
+use Rattle.matching.specs.Internal.Bases.{hasBelow, Rebased}
 use Rattle.matching.proofs.BaseLaws.{rebased-none, rebased-one, rebased-more, below-none, below-turn}
 use Rattle.matching.proofs.blossoms.rebase_cycle.Statement.{statement}
 use Rattle.matching.proofs.blossoms.rebase_cycle.Tie as tie
@@ -53,8 +53,12 @@ loop-again c =
     let H = head .loop .inv .1 in
     let next = c .next2 .ensures in
     let add = c .before .add .ensures in
-    let one = rebased-one _ (head .loop .z) _ _ _ _ (λ y. refl) (H .bases-length) (omega arith) (add .0) (add .1) in
-    (next .1, rebased-more _ H one (below-turn (head .before .before .args .cycle .now) (head .loop .z) _ (next .0) (head .loop .inv .2 (omega arith)) (next .2)), next .3)
+    let one = rebased-one _ (head .loop .z) _ _ _ _ (λ y. refl) (H .bases-length) (omega arith) (add .0) (add .1) in (
+      next .1,
+      rebased-more _ H one
+          (below-turn (head .before .before .args .cycle .now) (head .loop .z) _ (next .0) (head .loop .inv .2 (omega arith)) (next .2)),
+      next .3,
+    )
 
 returns : tie.Need-returns Inv-loop μ-loop
 returns c =

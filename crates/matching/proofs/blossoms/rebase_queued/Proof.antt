@@ -3,17 +3,18 @@ use Prim.Native.Nat.{_-_, _≤_}
 use mathlib.Core.Path.{_≡_, refl}
 use mathlib.Core.Bool.{_&&_}
 use native.Mathlib.Omega.{arith}
-use borrow.Author.Needs.{needs}
 use lib.ListN.{getD}
-use Rattle.matching.specs.Model.{among}
-use Rattle.matching.specs.Steps.{baseOn}
-use Rattle.matching.specs.Bases.{Rebased}
+use borrow.Author.Needs.{needs}
+use Rattle.matching.specs.Internal.Model.{among}
+use Rattle.matching.specs.Internal.Steps.{baseOn}
+use Rattle.matching.specs.Internal.Bases.{Rebased}
 use Rattle.matching.proofs.BaseLaws.{rebased-none, rebased-more, rebased-inside, queued-turn}
 use Rattle.matching.proofs.blossoms.rebase_queued.Statement.{statement}
 use Rattle.matching.proofs.blossoms.rebase_queued.Tie as tie
 
 abbrev Inv-loop : tie.InvT-loop
-Inv-loop bases₀ queue on joined₀ clock b m i₀ bases joined i = (i ≤ clock) × Rebased b (λ z. among queue i z && baseOn bases₀ on z) bases₀ joined₀ bases joined
+Inv-loop bases₀ queue on joined₀ clock b m i₀ bases joined i =
+    (i ≤ clock) × Rebased b (λ z. among queue i z && baseOn bases₀ on z) bases₀ joined₀ bases joined
 
 abbrev μ-loop : tie.MeasureT-loop
 μ-loop bases₀ queue on joined₀ clock b m i₀ bases joined i = clock - i
@@ -36,7 +37,8 @@ rebase-vertex-requires c κs =
     let start = head .before in
     let H = head .loop .inv .1 in
     let queued = start .pre .6 (head .loop .i) (omega arith) in
-    let base = rebased-inside (start .args .m) H (start .pre .1) (getD (start .args .queue .now) (head .loop .i) 0) (start .pre .5 _ queued) in
+    let base = rebased-inside (start .args .m) H (start .pre .1) (getD (start .args .queue .now) (head .loop .i) 0)
+    (start .pre .5 _ queued) in
     rw (c .before .before .wide .ensures) (omega arith, omega arith, H .bases-length, H .joined-length, omega arith)
 
 add-i : tie.Need-add-i Inv-loop μ-loop
@@ -48,8 +50,12 @@ loop-less c = omega arith
 loop-again : tie.Need-loop-again Inv-loop μ-loop
 loop-again c =
     let head = c .before .before .before .before .before .before in
-    let H = head .loop .inv .1 in
-    (omega arith, rebased-more _ H (c .rebase-vertex .ensures) (queued-turn (head .before .args .queue .now) (head .before .args .on .now) (head .loop .i) _ (c .before .before .before .wide .ensures) H))
+    let H = head .loop .inv .1 in (
+      omega arith,
+      rebased-more _ H (c .rebase-vertex .ensures)
+          (queued-turn (head .before .args .queue .now) (head .before .args .on .now) (head .loop .i) _
+          (c .before .before .before .wide .ensures) H),
+    )
 
 returns : tie.Need-returns Inv-loop μ-loop
 returns c =

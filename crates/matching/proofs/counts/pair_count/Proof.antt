@@ -1,17 +1,18 @@
-use Rattle.matching.proofs.CountLaws.{lower}
-use borrow.Author.Needs.{needs}
 use Prim.Native.Nat.{_+_, _-_, _≤_}
 use mathlib.Core.Path.{_≡_, ap}
 use mathlib.Core.Logic.{⊎-elim}
 use native.Mathlib.Omega.{arith}
 use lib.ListN.{length, take, drop}
+use borrow.Author.Needs.{needs}
 use Rattle.matching.specs.Maximum.{pairsFrom, pairsOf}
+use Rattle.ring.proofs.Counting.{bit}
 use Rattle.matching.proofs.CountLaws.{count-turn, count-ended}
 use Rattle.matching.proofs.counts.pair_count.Statement.{statement}
 use Rattle.matching.proofs.counts.pair_count.Tie as tie
 
 abbrev Inv-loop : tie.InvT-loop
-Inv-loop mates m count₀ i₀ count i = (i ≤ m) × (count ≤ i) × (count + length (pairsFrom i (drop i (take m mates))) ≡ length (pairsOf m mates))
+Inv-loop mates m count₀ i₀ count i =
+    (i ≤ m) × (count ≤ i) × (count + length (pairsFrom i (drop i (take m mates))) ≡ length (pairsOf m mates))
 
 abbrev μ-loop : tie.MeasureT-loop
 μ-loop mates m count₀ i₀ count i = m - i
@@ -43,13 +44,18 @@ loop-again c =
     let here = c .before .before .before .before in
     let s = here .before in
     let t = c .before .is-lower .result in
-    let e : c .if1 .count ≡ here .loop .count + lower t =
+    let e : c .if1 .count ≡ here .loop .count + bit t =
     ⊎-elim
-    (λ v. omega (arith, v .1, ap lower (v .0 .taken)))
-    (λ v. omega (arith, v .1, ap lower (v .0 .left)))
+    (λ v. omega (arith, v .1, ap bit (v .0 .taken)))
+    (λ v. omega (arith, v .1, ap bit (v .0 .left)))
     (c .if1 .came) in
-    let few : c .if1 .count ≤ here .loop .count + 1 = ⊎-elim (λ v. omega (arith, v .1)) (λ v. omega (arith, v .1)) (c .if1 .came) in
-    (omega arith, omega arith, rw e (count-turn (s .args .mates .now) (s .args .m) (here .loop .i) (omega arith) t (here .loop .count) (omega arith) (c .before .is-lower .ensures) (here .loop .inv .2)))
+    let few : c .if1 .count ≤ here .loop .count + 1 = ⊎-elim (λ v. omega (arith, v .1)) (λ v. omega (arith, v .1)) (c .if1 .came) in (
+      omega arith,
+      omega arith,
+      rw e
+          (count-turn (s .args .mates .now) (s .args .m) (here .loop .i) (omega arith) t (here .loop .count) (omega arith)
+          (c .before .is-lower .ensures) (here .loop .inv .2)),
+    )
 
 returns : tie.Need-returns Inv-loop μ-loop
 returns c =

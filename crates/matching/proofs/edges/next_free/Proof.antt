@@ -3,7 +3,7 @@ use mathlib.Core.Path.{_≡_}
 use mathlib.Core.Bool.{true}
 use native.Mathlib.Omega.{arith}
 use Rattle.sets.specs.Sets.{has}
-use Rattle.matching.specs.Progress.{freeIn}
+use Rattle.matching.specs.Internal.Progress.{freeIn}
 use Rattle.matching.proofs.FirstLaws.{Passed, passed-none, passed-next, passed-over, passed-found, passed-all}
 use Rattle.matching.proofs.AroundLaws.{free-out, free-not, free-found}
 use Rattle.matching.proofs.edges.next_free.Statement.{statement}
@@ -34,15 +34,21 @@ add-next : tie.Need-add-next Inv-loop μ-loop
 add-next c = omega (arith, c .before .before .before .before .before .pre .1, c .before .before .loop-test .taken)
 
 next-requires-2 : tie.Need-next-requires-2 Inv-loop μ-loop
-next-requires-2 c κs = let p = c .before .before .before .before .before .pre in (p .1, omega (arith, c .before .before .loop-test .taken), p .2)
+next-requires-2 c κs =
+    let p = c .before .before .before .before .before .pre in
+    (p .1, omega (arith, c .before .before .loop-test .taken), p .2)
 
 loop-less : tie.Need-loop-less Inv-loop μ-loop
 loop-less c = omega (arith, c .next2 .ensures .0, c .before .before .before .loop-test .taken)
 
 loop-again : tie.Need-loop-again Inv-loop μ-loop
 loop-again c =
-    let n = c .next2 .ensures in
-    (passed-over _ _ _ _ (passed-next _ _ _ (c .before .before .before .before .loop .inv .0) (free-not _ _ _ (c .before .if1 .left))) (n .0) (λ z a b. free-out _ _ _ (n .2 z a b)), n .3, n .1)
+    let n = c .next2 .ensures in (
+      passed-over _ _ _ _ (passed-next _ _ _ (c .before .before .before .before .loop .inv .0) (free-not _ _ _ (c .before .if1 .left)))
+          (n .0) (λ z a b. free-out _ _ _ (n .2 z a b)),
+      n .3,
+      n .1,
+    )
 
 returns-2 : tie.Need-returns-2 Inv-loop μ-loop
 returns-2 c =
@@ -50,4 +56,6 @@ returns-2 c =
     passed-all _ _ _ (rw e at (c .before .loop .inv .0))
 
 pub next-free-spec : {M : Type 1} → statement M
-next-free-spec = tie.close (tie.spec Inv-loop μ-loop next-requires loop-holds element-copy-out-if1 returns add-next next-requires-2 loop-less loop-again returns-2)
+next-free-spec =
+    tie.close (tie.spec Inv-loop μ-loop next-requires loop-holds element-copy-out-if1 returns add-next next-requires-2 loop-less loop-again
+    returns-2)

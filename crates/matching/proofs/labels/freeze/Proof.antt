@@ -1,9 +1,9 @@
 use Prim.Native.Nat.{_-_, _≤_}
 use mathlib.Core.Path.{_≡_}
 use native.Mathlib.Omega.{arith}
-use borrow.Author.Needs.{needs}
 use lib.ListN.{length, length-set}
-use Rattle.matching.specs.Labelling.{frozen}
+use borrow.Author.Needs.{needs}
+use Rattle.matching.specs.Internal.Labelling.{frozen}
 use Rattle.matching.proofs.LabellingLaws.{Relabelling, relabelling-start, relabelling-turn, relabelling-end}
 use Rattle.matching.proofs.labels.freeze.Statement.{statement}
 use Rattle.matching.proofs.labels.freeze.Tie as tie

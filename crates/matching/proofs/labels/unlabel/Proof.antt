@@ -1,9 +1,9 @@
 use Prim.Native.Nat.{_-_, _≤_}
 use mathlib.Core.Path.{_≡_}
 use native.Mathlib.Omega.{arith}
-use borrow.Author.Needs.{needs}
 use lib.ListN.{length, length-set}
-use Rattle.matching.specs.Labelling.{unlabelled}
+use borrow.Author.Needs.{needs}
+use Rattle.matching.specs.Internal.Labelling.{unlabelled}
 use Rattle.matching.proofs.LabellingLaws.{Relabelling, relabelling-start, relabelling-turn, relabelling-end}
 use Rattle.matching.proofs.labels.unlabel.Statement.{statement}
 use Rattle.matching.proofs.labels.unlabel.Tie as tie

@@ -5,7 +5,7 @@ use mathlib.Core.Logic.{⊎-elim}
 use native.Mathlib.Omega.{arith}
 use lib.ListN.{getD}
 use Rattle.ring.specs.Requests.{requestsOf}
-use Rattle.matching.specs.Progress.{Due}
+use Rattle.matching.specs.Internal.Progress.{Due}
 use Rattle.matching.proofs.AdjacencyLaws.{adjacent-symmetric}
 use Rattle.matching.proofs.AloneLaws.{not-not, alone-settles}
 use Rattle.matching.proofs.MaximumLaws.{open-exposed, open-free, open-not}
@@ -35,24 +35,35 @@ returns c =
     let head = c .before .before .before .before .before .before in
     let test = sym (c .before .before .before .is-open .ensures) ∙ c .before .before .if1 .taken in
     let mate = getD (head .before .before .args .mates .now) (head .loop .r) 0 in
-    let label = getD (head .loop .labels) (head .loop .r) 0 in
-    (record { due = head .loop .inv .0; exposed = λ h. open-exposed mate (head .loop .r) label test; free = λ h. open-free mate (head .loop .r) label test }, head .loop .inv .1)
+    let label = getD (head .loop .labels) (head .loop .r) 0 in (
+      record {
+        due = head .loop .inv .0;
+        exposed = λ h. open-exposed mate (head .loop .r) label test;
+        free = λ h. open-free mate
+            (head .loop .r) label test;
+      },
+      head .loop .inv .1,
+    )
 
 element-write-labels : tie.Need-element-write-labels Inv-loop μ-loop
 element-write-labels c =
-    let due = c .before .before .before .before .before .before .loop .inv .0 in omega (arith, c .before .before .before .before .before .loop-test .taken, due .number, due .settled .sized .few)
+    let due = c .before .before .before .before .before .before .loop .inv .0 in
+    omega (arith, c .before .before .before .before .before .loop-test .taken, due .number, due .settled .sized .few)
 
 cast-bases : tie.Need-cast-bases Inv-loop μ-loop
 cast-bases c =
-    let due = c .before .before .before .before .before .before .loop .inv .0 in omega (arith, c .before .before .before .before .before .loop-test .taken, due .number, due .settled .sized .few)
+    let due = c .before .before .before .before .before .before .loop .inv .0 in
+    omega (arith, c .before .before .before .before .before .loop-test .taken, due .number, due .settled .sized .few)
 
 mul-bases : tie.Need-mul-bases Inv-loop μ-loop
 mul-bases c =
-    let due = c .before .before .before .before .before .before .loop .inv .0 in omega (arith, c .before .before .before .before .before .loop-test .taken, due .number, due .settled .sized .few)
+    let due = c .before .before .before .before .before .before .loop .inv .0 in
+    omega (arith, c .before .before .before .before .before .loop-test .taken, due .number, due .settled .sized .few)
 
 element-write-bases : tie.Need-element-write-bases Inv-loop μ-loop
 element-write-bases c =
-    let due = c .before .before .before .before .before .before .loop .inv .0 in omega (arith, c .before .before .before .before .before .loop-test .taken, due .number, due .settled .sized .few)
+    let due = c .before .before .before .before .before .before .loop .inv .0 in
+    omega (arith, c .before .before .before .before .before .loop-test .taken, due .number, due .settled .sized .few)
 
 add-r : tie.Need-add-r Inv-loop μ-loop
 add-r c = omega (arith, c .before .before .before .loop-test .taken)
@@ -72,7 +83,10 @@ loop-again c =
     ⊎-elim
     (λ w. (
       record {
-        settled = rw (w .3, w .4) (alone-settles _ (adjacent-symmetric (head .before .before .args .ends .now)) _ _ _ _ (due .settled) inside (open-exposed mate (head .loop .r) label (came ∙ w .0 .taken)) (open-free mate (head .loop .r) label (came ∙ w .0 .taken)) (w .1 .ensures (not-not (w .1 .result) (w .2 .left))));
+        settled = rw (w .3, w .4)
+            (alone-settles _ (adjacent-symmetric (head .before .before .args .ends .now)) _ _ _ _ (due .settled) inside
+            (open-exposed mate (head .loop .r) label (came ∙ w .0 .taken)) (open-free mate (head .loop .r) label (came ∙ w .0 .taken))
+            (w .1 .ensures .none (not-not (w .1 .result) (w .2 .left))));
         number = due .number;
         most = omega (arith, taken);
         mapped = due .mapped;
@@ -93,8 +107,10 @@ loop-again c =
 returns-2 : tie.Need-returns-2 Inv-loop μ-loop
 returns-2 c =
     let due = c .before .loop .inv .0 in
-    let over : c .before .loop .r ≡ c .before .before .before .args .m = omega (arith, c .loop-test .left, due .most) in
-    (record { due = rw over at due; exposed = λ h. absurd (omega arith); free = λ h. absurd (omega arith) }, omega (arith, c .before .loop .inv .1))
+    let over : c .before .loop .r ≡ c .before .before .before .args .m = omega (arith, c .loop-test .left, due .most) in (
+      record { due = rw over at due; exposed = λ h. absurd (omega arith); free = λ h. absurd (omega arith) },
+      omega (arith, c .before .loop .inv .1),
+    )
 
 pub settle-alone-spec : {M : Type 1} → statement M
 settle-alone-spec =

@@ -1,20 +1,21 @@
 use Prim.Native.Nat.{ℕ}
-use mathlib.Core.Path.{sym}
-use lib.ListN.{replicate, length-replicate}
+use lib.ListN.{length-replicate}
+use borrow.Author.Needs.{needs}
 use Rattle.matching.proofs.MaximumLaws.{square-blank}
 use Rattle.matching.proofs.roots.with_64_rows.Statement.{statement}
 use Rattle.matching.proofs.roots.with_64_rows.Tie as tie
 
 slice-aggregate-search-all : tie.Need-slice-aggregate-search-all
-slice-aggregate-search-all c = let blank : ℕ = 0 in sym (length-replicate 64 (replicate 512 blank))
+slice-aggregate-search-all c = search needs
 
 search-all-requires : tie.Need-search-all-requires
 search-all-requires c κs =
+    let p = c .before .before .pre in
     let blank : ℕ = 0 in
-    (c .before .before .before .before .before .pre .0, square-blank _ 64 _ (c .before .before .before .before .before .pre .1) (length-replicate 512 blank))
+    (p .0, square-blank _ 64 _ (p .1) (length-replicate 512 blank))
 
 returns : tie.Need-returns
-returns c = c .before .search-all .ensures
+returns c = search needs
 
 pub with-64-rows-spec : {M : Type 1} → statement M
 with-64-rows-spec = tie.close (tie.spec slice-aggregate-search-all search-all-requires returns)

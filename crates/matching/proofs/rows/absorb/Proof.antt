@@ -10,7 +10,8 @@ use Rattle.matching.proofs.rows.absorb.Statement.{statement}
 use Rattle.matching.proofs.rows.absorb.Tie as tie
 
 abbrev Inv-loop : tie.InvT-loop
-Inv-loop rows₀ labels mates sides cycle joined x y m v₀ rows v = (v ≤ m) × AbsorbedBelow v m rows₀ rows labels mates sides x y × (length rows ≡ length rows₀)
+Inv-loop rows₀ labels mates sides cycle joined x y m v₀ rows v =
+    (v ≤ m) × AbsorbedBelow v m rows₀ rows labels mates sides x y × (length rows ≡ length rows₀)
 
 abbrev μ-loop : tie.MeasureT-loop
 μ-loop rows₀ labels mates sides cycle joined x y m v₀ rows v = m - v
@@ -64,7 +65,8 @@ loop-again c =
     let next = c .next2 .ensures in (
       next .1,
       absorb-skip _ _ _ _ _ _ _ (start .args .cycle .now) _ _ _ (start .pre .3 .covered) (next .1) (next .2)
-          (absorb-turn _ _ _ _ _ _ _ _ _ _ (start .pre .1) (start .pre .2) (omega arith) (head .loop .inv .1) (c .before .before .absorb-vertex .ensures)),
+          (absorb-turn _ _ _ _ _ _ _ _ _ _ (start .pre .1) (start .pre .2) (omega arith) (head .loop .inv .1)
+          (c .before .before .absorb-vertex .ensures)),
       c .before .before .absorb-vertex .kept .0 ∙ head .loop .inv .2,
     )
 

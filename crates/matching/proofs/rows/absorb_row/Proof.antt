@@ -2,14 +2,15 @@
 use Prim.Native.Nat.{_-_, _≤_}
 use mathlib.Core.Path.{_≡_, refl, _∙_}
 use native.Mathlib.Omega.{arith}
-use borrow.Author.Needs.{needs}
 use lib.ListN.{length, length-set}
+use borrow.Author.Needs.{needs}
 use Rattle.matching.proofs.MendLaws.{Mending, mending-start, mending-square, mending-turn, mending-end}
 use Rattle.matching.proofs.rows.absorb_row.Statement.{statement}
 use Rattle.matching.proofs.rows.absorb_row.Tie as tie
 
 abbrev Inv-loop : tie.InvT-loop
-Inv-loop rows₀ labels mates joined p q v m z₀ rows z = (z ≤ m) × Mending z m rows₀ rows labels mates joined p q v × (length rows ≡ length rows₀)
+Inv-loop rows₀ labels mates joined p q v m z₀ rows z =
+    (z ≤ m) × Mending z m rows₀ rows labels mates joined p q v × (length rows ≡ length rows₀)
 
 abbrev μ-loop : tie.MeasureT-loop
 μ-loop rows₀ labels mates joined p q v m z₀ rows z = m - z
@@ -25,7 +26,8 @@ loop-holds c =
     let start = c .before .before .before .before in
     let next = c .next .ensures in (
       next .1,
-      mending-start _ _ _ _ _ _ _ (start .pre .1) (omega arith) (start .pre .3) _ _ _ (start .pre .0) (start .pre .5) (c .before .before .copy-row .ensures) (next .1) (next .2),
+      mending-start _ _ _ _ _ _ _ (start .pre .1) (omega arith) (start .pre .3) _ _ _ (start .pre .0) (start .pre .5)
+          (c .before .before .copy-row .ensures) (next .1) (next .2),
       refl,
     )
 
@@ -68,7 +70,8 @@ loop-again c =
     let start = head .before .before .before .before .before in
     let next = c .next2 .ensures in (
       next .1,
-      mending-turn _ _ _ _ _ _ _ (start .pre .1) (omega arith) (start .pre .3) _ _ _ (head .loop .inv .1) _ _ (omega arith) (c .before .mixed-entry .ensures) (next .0) (next .1) (next .2),
+      mending-turn _ _ _ _ _ _ _ (start .pre .1) (omega arith) (start .pre .3) _ _ _ (head .loop .inv .1) _ _ (omega arith)
+          (c .before .mixed-entry .ensures) (next .0) (next .1) (next .2),
       simp length-set (head .loop .inv .2),
     )
 
@@ -82,13 +85,15 @@ pair-in-row-requires : tie.Need-pair-in-row-requires Inv-loop μ-loop
 pair-in-row-requires c κs = search needs
 
 same-length : tie.Need-same-length Inv-loop μ-loop
-same-length c = simp length-set (c .before .before .before .loop .inv .2 ∙ c .before .before .before .before .before .before .copy-row .kept .0)
+same-length c =
+    simp length-set (c .before .before .before .loop .inv .2 ∙ c .before .before .before .before .before .before .copy-row .kept .0)
 
 returns : tie.Need-returns Inv-loop μ-loop
 returns c =
     let head = c .before .before .before in
     let start = head .before .before .before .before .before in
-    mending-end _ _ _ _ _ _ _ (start .pre .1) (omega arith) (start .pre .3) _ _ _ (head .loop .inv .1) _ _ _ (omega arith) (head .before .before .before .copy-row .ensures) (c .pair-in-row .ensures)
+    mending-end _ _ _ _ _ _ _ (start .pre .1) (omega arith) (start .pre .3) _ _ _ (head .loop .inv .1) _ _ _ (omega arith)
+    (head .before .before .before .copy-row .ensures) (c .pair-in-row .ensures)
 
 pub absorb-row-spec : {M : Type 1} → statement M
 absorb-row-spec =

@@ -40,16 +40,31 @@ element-copy-out-even : tie.Need-element-copy-out-even
 element-copy-out-even c = search needs
 
 cast-even : tie.Need-cast-even
-cast-even c = omega (arith, c .before .before .before .before .before .pre .inside (c .before .before .before .before .before .args .z) (c .before .before .before .before .before .pre .z-inside))
+cast-even c =
+    omega (
+      arith,
+      c .before .before .before .before .before .pre .inside (c .before .before .before .before .before .args .z)
+          (c .before .before .before .before .before .pre .z-inside),
+    )
 
 mul-result-4 : tie.Need-mul-result-4
-mul-result-4 c = omega (arith, c .before .before .before .before .before .pre .inside (c .before .before .before .before .before .args .z) (c .before .before .before .before .before .pre .z-inside))
+mul-result-4 c =
+    omega (
+      arith,
+      c .before .before .before .before .before .pre .inside (c .before .before .before .before .before .args .z)
+          (c .before .before .before .before .before .pre .z-inside),
+    )
 
 mul-result-5 : tie.Need-mul-result-5
 mul-result-5 c = search needs
 
 index-1-result-2 : tie.Need-index-1-result-2
-index-1-result-2 c = omega (arith, c .before .before .before .before .before .pre .inside (c .before .before .before .before .before .args .z) (c .before .before .before .before .before .pre .z-inside))
+index-1-result-2 c =
+    omega (
+      arith,
+      c .before .before .before .before .before .pre .inside (c .before .before .before .before .before .args .z)
+          (c .before .before .before .before .before .pre .z-inside),
+    )
 
 index-2-result-2 : tie.Need-index-2-result-2
 index-2-result-2 c = search needs

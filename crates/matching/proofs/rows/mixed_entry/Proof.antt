@@ -1,6 +1,6 @@
 -- By whether the two rows agree, and by `below`.
-use borrow.Author.Needs.{needs}
 use mathlib.Core.Path.{sym, _∙_}
+use borrow.Author.Needs.{needs}
 use Rattle.matching.proofs.RowLaws.{mixed-same, mixed-inner, mixed-outer}
 use Rattle.matching.proofs.rows.mixed_entry.Statement.{statement}
 use Rattle.matching.proofs.rows.mixed_entry.Tie as tie

@@ -28,16 +28,19 @@ rebase-requires c κs =
     let p = start .pre .0 .3 in
     let number = p .number in
     let symmetric = adjacent-symmetric (start .pre .0 .0) in
-    let C = closed _ symmetric _ _ _ _ _ _ (p .at) (rw number at (p .inside)) (start .pre .1) (p .neighbour) (c .before .before .before .before .climb-both .ensures) in
+    let C = closed _ symmetric _ _ _ _ _ _ (p .at) (rw number at (p .inside)) (start .pre .1) (p .neighbour)
+    (c .before .before .before .before .climb-both .ensures) in
     rw number (rebasable _ symmetric _ _ _ _ _ _ C _ (omega (arith, number, C .inside)))
 
 absorb-requires : tie.Need-absorb-requires
 absorb-requires c κs =
-    let start = c .before .before .before .before .before .before .before .before .before .before .before .before .before .before .before .before in
+    let start = c .before .before .before .before .before .before .before .before .before .before .before .before .before .before .before
+    .before in
     let p = start .pre .0 .3 in
     let number = p .number in
     let symmetric = adjacent-symmetric (start .pre .0 .0) in
-    let C = closed _ symmetric _ _ _ _ _ _ (p .at) (rw number at (p .inside)) (start .pre .1) (p .neighbour) (c .before .before .before .before .before .before .before .before .before .before .climb-both .ensures) in
+    let C = closed _ symmetric _ _ _ _ _ _ (p .at) (rw number at (p .inside)) (start .pre .1) (p .neighbour)
+    (c .before .before .before .before .before .before .before .before .before .before .climb-both .ensures) in
     let joins = c .before .before .before .before .before .rebase .ensures in (
       rw number (p .at .standing .square),
       rw number (readable _ symmetric _ _ _ _ _ _ (p .at) (rw number at (p .inside)) (start .pre .1)),
@@ -53,11 +56,14 @@ absorb-requires c κs =
 
 promote-requires : tie.Need-promote-requires
 promote-requires c κs =
-    let start = c .before .before .before .before .before .before .before .before .before .before .before .before .before .before .before .before .before .before .before .before .before .before in
+    let start = c .before .before .before .before .before .before .before .before .before .before .before .before .before .before .before
+    .before .before .before .before .before .before .before in
     let p = start .pre .0 .3 in
     let number = p .number in
     let symmetric = adjacent-symmetric (start .pre .0 .0) in
-    let C = closed _ symmetric _ _ _ _ _ _ (p .at) (rw number at (p .inside)) (start .pre .1) (p .neighbour) (c .before .before .before .before .before .before .before .before .before .before .before .before .before .before .before .before .climb-both .ensures) in
+    let C = closed _ symmetric _ _ _ _ _ _ (p .at) (rw number at (p .inside)) (start .pre .1) (p .neighbour)
+    (c .before .before .before .before .before .before .before .before .before .before .before .before .before .before .before .before
+    .climb-both .ensures) in
     let sized = p .at .standing .sized in (
       omega (arith, number, sized .few),
       rw number (cycle-room _ symmetric _ _ _ _ _ _ C),
@@ -67,19 +73,27 @@ promote-requires c κs =
       λ v l. covered _ symmetric _ _ _ _ _ _ C v (rw number at l),
     )
 
+going-requires : tie.Need-going-requires
+going-requires c κs = _
+
 same-length : tie.Need-same-length
-same-length c = c .before .before .before .before .before .before .absorb .kept .0
+same-length c = c .before .before .before .before .before .before .before .absorb .kept .0
 
 returns : tie.Need-returns
 returns c = λ ends r h p.
-    let start = c .before .before .before .before .before .before .before .before .before .before .before .before .before .before .before .before .before .before .before .before .before .before .before in
+    let start = c .before .before .before .before .before .before .before .before .before .before .before .before .before .before .before
+    .before .before .before .before .before .before .before .before .before in
     let number = p .number in
     let symmetric = adjacent-symmetric ends in
-    let C = closed _ symmetric _ _ _ _ _ _ (p .at) (rw number at (p .inside)) (start .pre .1) (p .neighbour) (c .before .before .before .before .before .before .before .before .before .before .before .before .before .before .before .before .before .climb-both .ensures) in
-    let absorbed = c .before .before .before .before .before .before .absorb .ensures in
-    let based = c .before .before .before .before .before .before .before .before .before .before .before .before .rebase .ensures in
-    let here = blossom-stands _ symmetric _ _ _ _ _ _ C _ (rw number at (absorbed .0)) (rw number at (absorbed .1)) _ (based .1) (λ z l. based .2 z (rw number l)) _ _ _ (rw number at (c .promote .ensures)) in
-    record { square = here .standing .square; enlarged = λ d. impossible (sym d); going = λ d. here }
+    let C = closed _ symmetric _ _ _ _ _ _ (p .at) (rw number at (p .inside)) (start .pre .1) (p .neighbour)
+    (c .before .before .before .before .before .before .before .before .before .before .before .before .before .before .before .before
+    .before .before .climb-both .ensures) in
+    let absorbed = c .before .before .before .before .before .before .before .absorb .ensures in
+    let based = c .before .before .before .before .before .before .before .before .before .before .before .before .before .rebase .ensures
+    in
+    let here = blossom-stands _ symmetric _ _ _ _ _ _ C _ (rw number at (absorbed .0)) (rw number at (absorbed .1)) _ (based .1)
+    (λ z l. based .2 z (rw number l)) _ _ _ (rw number at (c .before .promote .ensures)) in
+    rw (c .going .ensures) (record { square = here .standing .square; enlarged = λ d. impossible (sym d); going = λ d. here })
 
 pub blossom-spec : {M : Type 1} → statement M
 blossom-spec =
@@ -89,5 +103,6 @@ blossom-spec =
     rebase-requires
     absorb-requires
     promote-requires
+    going-requires
     same-length
     returns)

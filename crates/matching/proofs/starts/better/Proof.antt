@@ -22,7 +22,8 @@ returns-2 : tie.Need-returns-2
 returns-2 c = (omega arith, inl refl)
 
 returns-3 : tie.Need-returns-3
-returns-3 c = (omega arith, inr (refl, c .before .before .before .before .if1 .left, sym (c .before .before .wide .ensures) ∙ c .before .if2 .left))
+returns-3 c =
+    (omega arith, inr (refl, c .before .before .before .before .if1 .left, sym (c .before .before .wide .ensures) ∙ c .before .if2 .left))
 
 mul-if4 : tie.Need-mul-if4
 mul-if4 c = search needs
@@ -37,7 +38,14 @@ element-copy-out-if4-2 : tie.Need-element-copy-out-if4-2
 element-copy-out-if4-2 c = search needs
 
 returns-4 : tie.Need-returns-4
-returns-4 c = (omega arith, inr (refl, c .before .before .before .before .before .before .before .if1 .left, sym (c .before .before .before .before .before .wide .ensures) ∙ c .before .before .before .before .if2 .left))
+returns-4 c = (
+  omega arith,
+  inr (
+    refl,
+    c .before .before .before .before .before .before .before .if1 .left,
+    sym (c .before .before .before .before .before .wide .ensures) ∙ c .before .before .before .before .if2 .left,
+  ),
+)
 
 returns-5 : tie.Need-returns-5
 returns-5 c = (omega arith, inl refl)

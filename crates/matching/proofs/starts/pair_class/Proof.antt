@@ -3,7 +3,7 @@ use Prim.Native.Nat.{_-_, _≤_}
 use mathlib.Core.Logic.{⊎-elim}
 use native.Mathlib.Omega.{arith}
 use Rattle.ring.specs.Requests.{requestsOf}
-use Rattle.matching.specs.Start.{Matched}
+use Rattle.matching.specs.Internal.Start.{Matched}
 use Rattle.matching.proofs.starts.pair_class.Statement.{statement}
 use Rattle.matching.proofs.starts.pair_class.Tie as tie
 
@@ -26,10 +26,14 @@ within-requires : tie.Need-within-requires Inv-loop μ-loop
 within-requires c κs = _
 
 pair-up-requires : tie.Need-pair-up-requires Inv-loop μ-loop
-pair-up-requires c κs = let p = c .before .before .before .before .before .before .before .pre in (p .0, c .before .before .before .before .loop-test .taken, c .before .before .before .before .before .loop .inv .1, p .2)
+pair-up-requires c κs =
+    let p = c .before .before .before .before .before .before .before .pre in
+    (p .0, c .before .before .before .before .loop-test .taken, c .before .before .before .before .before .loop .inv .1, p .2)
 
 add-i : tie.Need-add-i Inv-loop μ-loop
-add-i c = let p = c .before .before .before .before .before .before .pre in omega (arith, p .0, p .1 .few, c .before .before .before .loop-test .taken)
+add-i c =
+    let p = c .before .before .before .before .before .before .pre in
+    omega (arith, p .0, p .1 .few, c .before .before .before .loop-test .taken)
 
 loop-less : tie.Need-loop-less Inv-loop μ-loop
 loop-less c = omega (arith, c .before .before .before .loop-test .taken)

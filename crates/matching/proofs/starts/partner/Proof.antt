@@ -3,27 +3,41 @@ use Prim.Native.Nat.{_-_, _<_, _≤_}
 use mathlib.Core.Path.{_≡_, refl}
 use mathlib.Core.Bool.{true}
 use native.Mathlib.Omega.{arith}
+use lib.Dec.{leb}
 use Rattle.ring.specs.Requests.{requestsOf}
 use Rattle.sets.specs.Sets.{has}
-use Rattle.matching.specs.Start.{Partner}
-use Rattle.matching.proofs.StartLaws.{partner-itself, partner-better}
+use Rattle.matching.specs.Internal.Start.{Partner}
+use Rattle.matching.proofs.StartLaws.{look-most, partner-itself, partner-better}
 use Rattle.matching.proofs.starts.partner.Statement.{statement}
 use Rattle.matching.proofs.starts.partner.Tie as tie
 
 abbrev Inv-loop : tie.InvT-loop
-Inv-loop ends sets sizes mates i high m around best₀ j₀ best j = (j ≤ m) × (j < m → has around j ≡ true) × Partner (requestsOf ends) mates i best
+Inv-loop ends sets sizes mates i high m around best₀ j₀ best j =
+    (j ≤ m) × (j < m → has around j ≡ true) × Partner (requestsOf ends) mates i best
 
 abbrev μ-loop : tie.MeasureT-loop
 μ-loop ends sets sizes mates i high m around best₀ j₀ best j = m - j
 
 neighbours-requires : tie.Need-neighbours-requires Inv-loop μ-loop
-neighbours-requires c κs = let p = c .before .before .pre in (omega (arith, p .0, p .2), omega (arith, p .0, p .1), p .4 .valid, p .4 .prefixes, refl)
+neighbours-requires c κs =
+    let p = c .before .before .pre in
+    (omega (arith, p .0, p .2), omega (arith, p .0, p .1), p .4 .valid, p .4 .prefixes, refl)
 
 look-from-requires : tie.Need-look-from-requires Inv-loop μ-loop
 look-from-requires c κs = let p = c .before .before .before .before .pre in omega (arith, p .1, p .2)
 
 next-requires : tie.Need-next-requires Inv-loop μ-loop
-next-requires c κs = let p = c .before .before .before .before .before .pre in (p .1, omega (arith, p .2, c .look-from .ensures), c .before .before .neighbours .ensures .wide)
+next-requires c κs =
+    let p = c .before .before .before .before .before .pre in (
+      p .1,
+      omega (
+        arith,
+        p .2,
+        c .look-from .ensures,
+        look-most (leb 128 (c .before .before .before .before .before .args .high)) (c .before .before .before .before .before .args .i),
+      ),
+      c .before .before .neighbours .ensures .wide,
+    )
 
 loop-holds : tie.Need-loop-holds Inv-loop μ-loop
 loop-holds c =
@@ -43,13 +57,24 @@ returns : tie.Need-returns Inv-loop μ-loop
 returns c =
     let p = c .before .before .before .before .before .before .before .before .before .before .before .pre in
     let inside = rw (p .0) at (c .before .before .before .loop-test .taken) in
-    partner-better _ _ _ _ _ _ _ (c .before .before .before .before .before .before .before .before .neighbours .ensures) (rw (p .0) at (p .2)) inside (c .before .before .before .before .loop .inv .1 (c .before .before .before .loop-test .taken)) (c .before .before .before .before .loop .inv .2) (c .before .before .better .ensures .1)
+    partner-better _ _ _ _ _ _ _ (c .before .before .before .before .before .before .before .before .neighbours .ensures)
+    (rw (p .0) at (p .2)) inside (c .before .before .before .before .loop .inv .1 (c .before .before .before .loop-test .taken))
+    (c .before .before .before .before .loop .inv .2) (c .before .before .better .ensures .1)
 
 add-next : tie.Need-add-next Inv-loop μ-loop
-add-next c = omega (arith, c .before .before .before .before .before .before .before .before .before .before .before .before .pre .1, c .before .before .before .before .loop-test .taken)
+add-next c =
+    omega (
+      arith,
+      c .before .before .before .before .before .before .before .before .before .before .before .before .pre .1,
+      c .before .before .before .before .loop-test .taken,
+    )
 
 next-requires-2 : tie.Need-next-requires-2 Inv-loop μ-loop
-next-requires-2 c κs = (c .before .before .before .before .before .before .before .before .before .before .before .before .pre .1, omega (arith, c .before .before .before .before .loop-test .taken), c .before .before .before .before .before .before .before .before .before .neighbours .ensures .wide)
+next-requires-2 c κs = (
+  c .before .before .before .before .before .before .before .before .before .before .before .before .pre .1,
+  omega (arith, c .before .before .before .before .loop-test .taken),
+  c .before .before .before .before .before .before .before .before .before .neighbours .ensures .wide,
+)
 
 loop-less : tie.Need-loop-less Inv-loop μ-loop
 loop-less c = omega (arith, c .next2 .ensures .0, c .before .before .before .before .before .loop-test .taken)
@@ -58,8 +83,14 @@ loop-again : tie.Need-loop-again Inv-loop μ-loop
 loop-again c =
     let p = c .before .before .before .before .before .before .before .before .before .before .before .before .before .pre in
     let n = c .next2 .ensures in
-    let inside = rw (p .0) at (c .before .before .before .before .before .loop-test .taken) in
-    (n .1, n .3, partner-better _ _ _ _ _ _ _ (c .before .before .before .before .before .before .before .before .before .before .neighbours .ensures) (rw (p .0) at (p .2)) inside (c .before .before .before .before .before .before .loop .inv .1 (c .before .before .before .before .before .loop-test .taken)) (c .before .before .before .before .before .before .loop .inv .2) (c .before .before .before .before .better .ensures .1))
+    let inside = rw (p .0) at (c .before .before .before .before .before .loop-test .taken) in (
+      n .1,
+      n .3,
+      partner-better _ _ _ _ _ _ _ (c .before .before .before .before .before .before .before .before .before .before .neighbours .ensures)
+          (rw (p .0) at (p .2)) inside
+          (c .before .before .before .before .before .before .loop .inv .1 (c .before .before .before .before .before .loop-test .taken))
+          (c .before .before .before .before .before .before .loop .inv .2) (c .before .before .before .before .better .ensures .1),
+    )
 
 returns-2 : tie.Need-returns-2 Inv-loop μ-loop
 returns-2 c = c .before .loop .inv .2

@@ -41,7 +41,8 @@ returns : tie.Need-returns
 returns c =
     let b = c .before .before in
     let s = b .before .before .before .before .before .before in
-    pair-written (requestsOf (s .args .ends .now)) (s .args .i) (s .args .j) _ (s .args .table .now) _ _ _ _ _ _ (b .before .before .before .request-at .ensures) (b .before .before .request-at2 .ensures)
+    pair-written (requestsOf (s .args .ends .now)) (s .args .i) (s .args .j) _ (s .args .table .now) _ _ _ _ _ _
+    (b .before .before .before .request-at .ensures) (b .before .before .request-at2 .ensures)
     (b .before .first-way .ensures) (b .other-way .ensures) (c .before .served-number .ensures) (c .served-number2 .ensures)
 
 pub put-pair-spec : {M : Type 1} → statement M

@@ -38,7 +38,8 @@ returns-3 c =
     let b = c .before .before in
     let tests = b .before .before in
     let s = tests .before .before .before .before .args in
-    both-take (s .w) (requestsOf (s .ends .now)) (s .i) (s .j) (s .colour) (s .table .now) _ (tests .before .if1 .left) (tests .if2 .left) (b .put-pair .ensures)
+    both-take (s .w) (requestsOf (s .ends .now)) (s .i) (s .j) (s .colour) (s .table .now) _ (tests .before .if1 .left) (tests .if2 .left)
+    (b .put-pair .ensures)
 
 pub take-pair-spec : {M : Type 1} → statement M
 take-pair-spec =

@@ -33,7 +33,8 @@ colour-requires : tie.Need-colour-requires
 colour-requires c κs =
     let a = c .before .before in
     let s = a .before .before .before .before .before in
-    colourable-if (a .answer2 .given .0 .0 .nodes) (a .answer2 .given .0 .0 .colours) (s .args .ends .now) (s .args .table .now) (limits (c .before))
+    colourable-if (a .answer2 .given .0 .0 .nodes) (a .answer2 .given .0 .0 .colours) (s .args .ends .now) (s .args .table .now)
+    (limits (c .before))
 
 maximum-requires : tie.Need-maximum-requires
 maximum-requires c κs =
@@ -45,7 +46,8 @@ choose-requires c κs =
     let b = m .before .before .before in
     let a = b .before .before .before in
     let s = a .before .before .before .before .before in
-    choosable-if (a .answer2 .given .0 .0 .nodes) (a .answer2 .given .0 .0 .colours) (s .args .ends .now) (s .args .table .now) _ (b .colour .result) (m .maximum .result)
+    choosable-if (a .answer2 .given .0 .0 .nodes) (a .answer2 .given .0 .0 .colours) (s .args .ends .now) (s .args .table .now) _
+    (b .colour .result) (m .maximum .result)
     (limits (b .before .before)) (b .colour .ensures) (m .maximum .ensures)
 
 returns : tie.Need-returns
@@ -68,9 +70,11 @@ returns-2 c =
     let ring = a .answer2 .given .0 .0 in
     let R = requestsOf (s .args .ends .now) in
     let P = pairsOf (length R) (m .maximum .result .mates) in
-    plan-made (s .args .n) (s .args .w) (s .args .ends .now) (s .args .table .now) _ ring (sym (a .before .before .call-answer .ensures) ∙ a .answer2 .given .1)
+    plan-made (s .args .n) (s .args .w) (s .args .ends .now) (s .args .table .now) _ ring (sym (a .before .before .call-answer .ensures)
+    ∙ a .answer2 .given .1)
     P (m .maximum .ensures .maximum) (pairs-by-lower (length R) (m .maximum .result .mates)) (d .choose .result)
-    (chosen-from (ring .nodes) (ring .colours) R (limits (b .before .before) .list .valid) (s .args .table .now) _ (b .colour .result) (b .colour .ensures) P _ (d .choose .result) (d .choose .ensures))
+    (chosen-from (ring .nodes) (ring .colours) R (limits (b .before .before) .list .valid) (s .args .table .now) _ (b .colour .result)
+    (b .colour .ensures) P _ (d .choose .result) (d .choose .ensures))
 
 pub plan-spec : {M : Type 1} → statement M
 plan-spec =

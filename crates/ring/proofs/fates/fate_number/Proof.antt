@@ -2,23 +2,17 @@ use Prim.Native.Nat.{ℕ, _+_, _*_, _<_}
 use mathlib.Core.Path.{_≡_, sym, ap}
 use native.Mathlib.Omega.{arith}
 use Rattle.ring.specs.declared.ways.Way.{Way}
-use Rattle.ring.specs.declared.ways.Way.the-variants.{Plain, Seam}
 use Rattle.ring.specs.declared.fates.Fate.{Fate}
 use Rattle.ring.specs.declared.fates.Fate.the-variants.{Served}
 use Rattle.ring.specs.Fates.{wayNumber, fateNumber}
+use Rattle.ring.proofs.FateLaws.{served-number}
 use borrow.Author.Needs.{needs}
 use Rattle.ring.proofs.fates.fate_number.Statement.{statement}
 use Rattle.ring.proofs.fates.fate_number.Tie as tie
 
--- the number of a served request
-served : (u : Way) (k : ℕ) → fateNumber (Served u k) ≡ 2 * k + 1 + wayNumber u
-unfolding fateNumber
-served Plain k = omega arith
-served Seam k = omega arith
-
 -- its number fits, so its parts do
 fits : {f : Fate} {u : Way} {k : ℕ} → fateNumber f < 65536 → f ≡ Served u k → 2 * k + 1 + wayNumber u < 65536
-fits {f} {u} {k} h e = omega (arith, served u k, ap fateNumber e)
+fits {f} {u} {k} h e = omega (arith, served-number u k, ap fateNumber e)
 
 enum-told : tie.Need-enum-told
 enum-told c = search needs
@@ -44,7 +38,12 @@ returns c = ap fateNumber (sym (c .enum-told .given .1))
 
 returns-2 : tie.Need-returns-2
 returns-2 c =
-    omega (arith, c .way-number .ensures, served (c .before .before .fate .given .0 .0) (c .before .before .fate .given .0 .1 .0), ap fateNumber (c .before .before .fate .given .1))
+    omega (
+      arith,
+      c .way-number .ensures,
+      served-number (c .before .before .fate .given .0 .0) (c .before .before .fate .given .0 .1 .0),
+      ap fateNumber (c .before .before .fate .given .1),
+    )
 
 pub fate-number-spec : {M : Type 1} → statement M
 fate-number-spec =

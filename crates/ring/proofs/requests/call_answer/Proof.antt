@@ -31,7 +31,8 @@ returns-2 c =
     let list = c .before .before .before in
     let new = list .before .before .before .new in
     let s = c .before .before .before .before .before .before .before .before .args in
-    call-list-refused (s .n) (s .w) (s .ends .now) (s .entries) _ (sym (new .ensures) ∙ list .before .enum-told .given .1) _ (sym (list .list-verdict .ensures) ∙ c .before .verdict .given .1)
+    call-list-refused (s .n) (s .w) (s .ends .now) (s .entries) _ (sym (new .ensures) ∙ list .before .enum-told .given .1) _
+    (sym (list .list-verdict .ensures) ∙ c .before .verdict .given .1)
 
 enum-told-3 : tie.Need-enum-told-3
 enum-told-3 c = search needs
@@ -41,14 +42,16 @@ returns-3 c =
     let list = c .before .before .before in
     let new = list .before .before .before .new in
     let s = c .before .before .before .before .before .before .before .before .args in
-    call-table-short (s .n) (s .w) (s .ends .now) (s .entries) _ (sym (new .ensures) ∙ list .before .enum-told .given .1) (sym (list .list-verdict .ensures) ∙ c .before .enum-told3 .given .1) (omega arith)
+    call-table-short (s .n) (s .w) (s .ends .now) (s .entries) _ (sym (new .ensures) ∙ list .before .enum-told .given .1)
+    (sym (list .list-verdict .ensures) ∙ c .before .enum-told3 .given .1) (omega arith)
 
 returns-4 : tie.Need-returns-4
 returns-4 c =
     let list = c .before .before .before in
     let new = list .before .before .before .new in
     let s = c .before .before .before .before .before .before .before .before .args in
-    new .ensures ∙ call-made (s .n) (s .w) (s .ends .now) (s .entries) _ (sym (new .ensures) ∙ list .before .enum-told .given .1) (sym (list .list-verdict .ensures) ∙ c .before .enum-told3 .given .1) (omega arith)
+    new .ensures ∙ call-made (s .n) (s .w) (s .ends .now) (s .entries) _ (sym (new .ensures) ∙ list .before .enum-told .given .1)
+    (sym (list .list-verdict .ensures) ∙ c .before .enum-told3 .given .1) (omega arith)
 
 pub call-answer-spec : {M : Type 1} → statement M
 call-answer-spec =

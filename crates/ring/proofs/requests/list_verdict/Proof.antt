@@ -1,81 +1,83 @@
-use Rattle.ring.proofs.AdmissionLaws.{second-end, list-refused, list-next}
-use mathlib.Core.Logic.{⊎-elim}
-use borrow.Author.Tests.{lt-ltb, le-ltb}
+-- At the head of the loop the verdict on the requests from i on is that on all of them.
 use borrow.Author.Needs.{needs}
 use Prim.Native.Nat.{_*_, _-_, _≤_}
-use mathlib.Core.Path.{_≡_, sym, _∙_}
+use mathlib.Core.Path.{_≡_, refl, sym, _∙_}
 use native.Mathlib.Omega.{arith}
 use lib.ListN.{length, drop}
-use Rattle.ring.specs.Admission.{requestVerdicts, listVerdict}
-use Rattle.ring.proofs.AdmissionLaws.{verdicts-ended}
+use Rattle.ring.specs.declared.refusals.Verdict.the-variants.{Allowed}
+use Rattle.ring.specs.Admission.{requestVerdicts, countVerdict, listVerdict}
+use Rattle.ring.proofs.AdmissionLaws.{count-limits, second-end, list-refused, list-next, verdicts-ended}
 use Rattle.ring.proofs.requests.list_verdict.Statement.{statement}
 use Rattle.ring.proofs.requests.list_verdict.Tie as tie
 
 abbrev Inv-loop : tie.InvT-loop
-Inv-loop n ends i₀ i = (2 * i ≤ length ends) × (requestVerdicts n i (drop (2 * i) ends) ≡ requestVerdicts n 0 ends)
+Inv-loop n ends i₀ i =
+    (2 * i ≤ length ends) × (requestVerdicts n i (drop (2 * i) ends) ≡ requestVerdicts n 0 ends) × (countVerdict (length ends) ≡ Allowed)
 
 abbrev μ-loop : tie.MeasureT-loop
 μ-loop n ends i₀ i = length ends - 2 * i
 
-mul-if1 : tie.Need-mul-if1 Inv-loop μ-loop
-mul-if1 c = search needs
+count-verdict-requires : tie.Need-count-verdict-requires Inv-loop μ-loop
+count-verdict-requires c κs = search needs
+
+enum-known-count : tie.Need-enum-known-count Inv-loop μ-loop
+enum-known-count c = search needs
 
 returns : tie.Need-returns Inv-loop μ-loop
 unfolding listVerdict
-returns c =
-    ⊎-elim
-    (λ v. simp (lt-ltb _ _ (v .taken)))
-    (λ v. simp (le-ltb _ _ (v .0 .left), v .1 .taken))
-    (c .if1 .came)
+returns c = rw (sym (c .before .before .before .count-verdict .ensures), c .before .count .given .1) refl
+
+enum-told : tie.Need-enum-told Inv-loop μ-loop
+enum-told c = search needs
 
 loop-holds : tie.Need-loop-holds Inv-loop μ-loop
-loop-holds c = search needs
+loop-holds c = (omega arith, refl, sym (c .before .before .count-verdict .ensures) ∙ c .enum-told .given .1)
 
 mul-loop : tie.Need-mul-loop Inv-loop μ-loop
 mul-loop c = search needs
 
-cast-request-verdict : tie.Need-cast-request-verdict Inv-loop μ-loop
-cast-request-verdict c = search needs
+mul-x : tie.Need-mul-x Inv-loop μ-loop
+mul-x c = search needs
 
-mul-request-verdict : tie.Need-mul-request-verdict Inv-loop μ-loop
-mul-request-verdict c = search needs
+mul-x-2 : tie.Need-mul-x-2 Inv-loop μ-loop
+mul-x-2 c = search needs
 
-mul-request-verdict-2 : tie.Need-mul-request-verdict-2 Inv-loop μ-loop
-mul-request-verdict-2 c = search needs
+shared-slice-read-x : tie.Need-shared-slice-read-x Inv-loop μ-loop
+shared-slice-read-x c = search needs
 
-shared-slice-read-request-verdict : tie.Need-shared-slice-read-request-verdict Inv-loop μ-loop
-shared-slice-read-request-verdict c = search needs
+mul-y : tie.Need-mul-y Inv-loop μ-loop
+mul-y c = search needs
 
-mul-request-verdict-3 : tie.Need-mul-request-verdict-3 Inv-loop μ-loop
-mul-request-verdict-3 c = search needs
+add-y : tie.Need-add-y Inv-loop μ-loop
+add-y c = search needs
 
-add-request-verdict : tie.Need-add-request-verdict Inv-loop μ-loop
-add-request-verdict c = search needs
+mul-y-2 : tie.Need-mul-y-2 Inv-loop μ-loop
+mul-y-2 c = search needs
 
-mul-request-verdict-4 : tie.Need-mul-request-verdict-4 Inv-loop μ-loop
-mul-request-verdict-4 c = search needs
+shared-slice-read-y : tie.Need-shared-slice-read-y Inv-loop μ-loop
+shared-slice-read-y c =
+    let s = c .before .before .before .before .before .before .before .before in
+    let here = c .before .before .before .loop in
+    second-end (s .args .n) (here .i) (s .args .ends .now) (here .inv .2) (omega arith) (here .inv .1)
 
-shared-slice-read-request-verdict-2 : tie.Need-shared-slice-read-request-verdict-2 Inv-loop μ-loop
-shared-slice-read-request-verdict-2 c =
-    let here = c .before .before .before in
-    let s = here .before .before .before .before in
-    second-end (s .args .n) (here .loop .i) (s .args .ends .now) (omega arith) (here .before .if2 .left) (omega arith) (here .loop .inv .1)
+cast-number : tie.Need-cast-number Inv-loop μ-loop
+cast-number c = omega (arith, count-limits _ (c .before .before .before .loop .inv .2))
 
-request-verdict-requires : tie.Need-request-verdict-requires Inv-loop μ-loop
-request-verdict-requires c κs = search needs
+ends-verdict-requires : tie.Need-ends-verdict-requires Inv-loop μ-loop
+ends-verdict-requires c κs = search needs
 
 enum-known-verdict : tie.Need-enum-known-verdict Inv-loop μ-loop
 enum-known-verdict c = search needs
 
 returns-2 : tie.Need-returns-2 Inv-loop μ-loop
 returns-2 c =
-    let r = c .before .before .before in
-    let here = r .before .before .before .before in
-    let s = here .before .before .before .before in
-    list-refused (s .args .n) (here .loop .i) (s .args .ends .now) (omega arith) (here .before .if2 .left) (omega arith) (here .loop .inv .1) _ (sym (r .request-verdict .ensures) ∙ c .before .verdict .given .1)
+    let s = c .before .before .before .before .before .before .before .before .before .before .before .before in
+    let here = c .before .before .before .before .before .before .before .loop in
+    list-refused (s .args .n) (here .i) (s .args .ends .now) (here .inv .2) (omega arith) (here .inv .1) _
+    (sym (c .before .before .before .ends-verdict .ensures) ∙ c .before .verdict .given .1)
 
-enum-told : tie.Need-enum-told Inv-loop μ-loop
-enum-told c = search needs
+enum-told-2 : tie.Need-enum-told-2 Inv-loop μ-loop
+enum-told-2 c = search needs
 
 add-i : tie.Need-add-i Inv-loop μ-loop
 add-i c = search needs
@@ -85,19 +87,21 @@ loop-less c = search needs
 
 loop-again : tie.Need-loop-again Inv-loop μ-loop
 loop-again c =
-    let r = c .before .before in
-    let here = r .before .before .before .before in
-    let s = here .before .before .before .before in
-    let second = second-end (s .args .n) (here .loop .i) (s .args .ends .now) (omega arith) (here .before .if2 .left) (omega arith) (here .loop .inv .1) in
-    (omega arith, list-next (s .args .n) (here .loop .i) (s .args .ends .now) (omega arith) (here .before .if2 .left) (omega arith) (here .loop .inv .1) (sym (r .request-verdict .ensures) ∙ c .enum-told .given .1))
+    let s = c .before .before .before .before .before .before .before .before .before .before .before in
+    let here = c .before .before .before .before .before .before .loop in
+    let second = second-end (s .args .n) (here .i) (s .args .ends .now) (here .inv .2) (omega arith) (here .inv .1) in (
+      omega arith,
+      list-next (s .args .n) (here .i) (s .args .ends .now) (here .inv .2) (omega arith) (here .inv .1)
+          (sym (c .before .before .ends-verdict .ensures) ∙ c .enum-told2 .given .1),
+      here .inv .2,
+    )
 
 returns-3 : tie.Need-returns-3 Inv-loop μ-loop
 unfolding listVerdict
 returns-3 c =
-    let here = c .before in
-    let s = here .before .before .before .before in
-    let e = sym (here .loop .inv .1) ∙ verdicts-ended (s .args .n) (here .loop .i) (s .args .ends .now) (omega arith) in
-    simp (le-ltb _ _ (here .before .before .if1 .left), here .before .if2 .left, e)
+    let s = c .before .before .before .before .before .before in
+    let here = c .before .loop in
+    rw (here .inv .2) (sym (verdicts-ended (s .args .n) (here .i) (s .args .ends .now) (omega arith)) ∙ here .inv .1)
 
 pub list-verdict-spec : {M : Type 1} → statement M
 list-verdict-spec =
@@ -105,22 +109,24 @@ list-verdict-spec =
     (tie.spec
     Inv-loop
     μ-loop
-    mul-if1
+    count-verdict-requires
+    enum-known-count
     returns
+    enum-told
     loop-holds
     mul-loop
-    cast-request-verdict
-    mul-request-verdict
-    mul-request-verdict-2
-    shared-slice-read-request-verdict
-    mul-request-verdict-3
-    add-request-verdict
-    mul-request-verdict-4
-    shared-slice-read-request-verdict-2
-    request-verdict-requires
+    mul-x
+    mul-x-2
+    shared-slice-read-x
+    mul-y
+    add-y
+    mul-y-2
+    shared-slice-read-y
+    cast-number
+    ends-verdict-requires
     enum-known-verdict
     returns-2
-    enum-told
+    enum-told-2
     add-i
     loop-less
     loop-again

@@ -2,7 +2,7 @@ use mathlib.Core.Path.{sym, _∙_, ap}
 use mathlib.Core.Bool.{not}
 use Rattle.ring.specs.declared.ways.Way.{Way}
 use Rattle.ring.specs.declared.ways.Way.the-variants.{Seam}
-use Rattle.ring.specs.Ways.{sharing}
+use Rattle.ring.specs.Internal.Sharing.{sharing}
 use borrow.Author.Needs.{needs}
 use Rattle.ring.proofs.ways.seam_shares.Statement.{statement}
 use Rattle.ring.proofs.ways.seam_shares.Tie as tie

@@ -1,6 +1,6 @@
 use mathlib.Core.Path.{sym, _∙_, ap}
 use Rattle.ring.specs.declared.ways.Way.{Way}
-use Rattle.ring.specs.Ways.{sharing}
+use Rattle.ring.specs.Internal.Sharing.{sharing}
 use borrow.Author.Needs.{needs}
 use Rattle.ring.proofs.ways.ways_share.Statement.{statement}
 use Rattle.ring.proofs.ways.ways_share.Tie as tie

@@ -18,7 +18,8 @@ both-requires c κs = search needs
 returns : tie.Need-returns
 returns c =
     let s = c .before .before .before .before .before .args in
-    right-steps (s .block .now) (s .number) (c .before .before .before .word-at .result) (c .before .before .word-at2 .result) (c .before .check-of .result) (c .both .result)
+    right-steps (s .block .now) (s .number) (c .before .before .before .word-at .result) (c .before .before .word-at2 .result)
+    (c .before .check-of .result) (c .both .result)
     (c .before .before .before .word-at .ensures) (c .before .before .word-at2 .ensures) (c .before .check-of .ensures) (c .both .ensures)
 
 pub block-right-spec : {M : Type 1} → statement M

@@ -18,21 +18,25 @@ abbrev μ-loop : tie.MeasureT-loop
 loop-holds : tie.Need-loop-holds Inv-loop μ-loop
 loop-holds c = search needs
 
-cast-wide : tie.Need-cast-wide Inv-loop μ-loop
-cast-wide c = search needs
+cast-value : tie.Need-cast-value Inv-loop μ-loop
+cast-value c = search needs
 
-shared-slice-read-wide : tie.Need-shared-slice-read-wide Inv-loop μ-loop
-shared-slice-read-wide c = search needs
+shared-slice-read-value : tie.Need-shared-slice-read-value Inv-loop μ-loop
+shared-slice-read-value c = search needs
 
-wide-requires : tie.Need-wide-requires Inv-loop μ-loop
-wide-requires c κs = search needs
+value-requires : tie.Need-value-requires Inv-loop μ-loop
+value-requires c κs = search needs
+
+cast-sum : tie.Need-cast-sum Inv-loop μ-loop
+cast-sum c = search needs
 
 add-sum : tie.Need-add-sum Inv-loop μ-loop
 add-sum c = search needs
 
 -- each term is at most 255 times 510
-term : (c : tie.After-wide Inv-loop μ-loop) → c .wide .result * (c .before .before .before .loop .i + 1) ≤ 130050
-term c = term-bound (c .wide .result) (c .before .before .before .loop .i) (omega (arith, c .wide .ensures, c .before .shared-slice-known2 .given (c .before .before .before .loop .i))) (omega arith)
+term : (c : tie.After-value Inv-loop μ-loop) → c .value .result * (c .before .before .before .loop .i + 1) ≤ 130050
+term c = term-bound (c .value .result) (c .before .before .before .loop .i)
+    (omega (arith, c .value .ensures .0, c .before .shared-slice-known2 .given (c .before .before .before .loop .i))) (omega arith)
 
 mul-sum : tie.Need-mul-sum Inv-loop μ-loop
 mul-sum c = omega (arith, term c)
@@ -51,8 +55,11 @@ loop-again c =
     let l = c .before .before .before .before .before .args .block .now in
     let i = c .before .before .before .loop .i in
     let h : i < 510 = omega arith in
-    let e : c .wide .result * (i + 1) ≡ getD l i 0 * (i + 1) = ap (λ (y : ℕ). y * (i + 1)) (c .wide .ensures) in
-    (omega arith, omega (arith, term c), omega (arith, c .before .before .before .loop .inv .2, sum-next l (c .before .before .before .before .before .pre) i h))
+    let e : c .value .result * (i + 1) ≡ getD l i 0 * (i + 1) = ap (λ (y : ℕ). y * (i + 1)) (c .value .ensures .0) in (
+      omega arith,
+      omega (arith, term c),
+      omega (arith, c .before .before .before .loop .inv .2, sum-next l (c .before .before .before .before .before .pre) i h),
+    )
 
 cast-result : tie.Need-cast-result Inv-loop μ-loop
 cast-result c = search needs
@@ -72,9 +79,10 @@ check-of-spec =
     Inv-loop
     μ-loop
     loop-holds
-    cast-wide
-    shared-slice-read-wide
-    wide-requires
+    cast-value
+    shared-slice-read-value
+    value-requires
+    cast-sum
     add-sum
     mul-sum
     add-sum-2

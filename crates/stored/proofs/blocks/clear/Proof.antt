@@ -6,7 +6,7 @@ use native.Mathlib.Omega.{arith}
 use lib.Seq.{drop-length}
 use lib.ListN.{length, drop, set, replicate, length-set}
 use borrow.Author.Needs.{needs}
-use Rattle.stored.proofs.Lists.{clear-next}
+use borrow.Author.Fill.{fill-more}
 use Rattle.stored.proofs.blocks.clear.Statement.{statement}
 use Rattle.stored.proofs.blocks.clear.Tie as tie
 
@@ -32,8 +32,12 @@ loop-again : tie.Need-loop-again Inv-loop μ-loop
 loop-again c =
     let l = c .before .before .args .block .now in
     let i = c .before .loop .i in
-    let h : i < length l = omega arith in
-    (omega arith, length-set (c .before .loop .block) i 0 ∙ c .before .loop .inv .1, ap (λ (xs : List ℕ). set xs i 0) (c .before .loop .inv .2) ∙ clear-next l i h)
+    let h : i < length l = omega arith in (
+      omega arith,
+      length-set (c .before .loop .block) i 0
+          ∙ c .before .loop .inv .1,
+      ap (λ (xs : List ℕ). set xs i 0) (c .before .loop .inv .2) ∙ fill-more i 0 l h,
+    )
 
 same-length : tie.Need-same-length Inv-loop μ-loop
 same-length c = search needs

@@ -18,8 +18,10 @@ same-length c = search needs
 returns : tie.Need-returns
 returns c =
     let a = c .before .before .before .before .before .before .before .before .before .before .before .args in
-    sealed-steps (a .number) (c .before .before .before .before .check-of .result) (a .block .now) (c .before .before .before .before .before .before .before .before .put-word .last .0) (c .before .before .put-word2 .last .0)
-    (c .before .before .before .before .before .before .before .before .put-word .ensures) (c .before .before .before .before .check-of .ensures) (c .before .before .put-word2 .ensures)
+    sealed-steps (a .number) (c .before .before .before .before .check-of .result) (a .block .now)
+    (c .before .before .before .before .before .before .before .before .put-word .last .0) (c .before .before .put-word2 .last .0)
+    (c .before .before .before .before .before .before .before .before .put-word .ensures)
+    (c .before .before .before .before .check-of .ensures) (c .before .before .put-word2 .ensures)
 
 pub seal-spec : {M : Type 1} → statement M
 seal-spec =

@@ -4,7 +4,7 @@ use native.Mathlib.Omega.{arith}
 use lib.ListN.{length, replicate, length-replicate}
 use borrow.Author.Needs.{needs}
 use Rattle.stored.specs.Storing.{lengthOf}
-use Rattle.stored.specs.Loading.{sameBytes}
+use Rattle.ring.specs.Buffers.{sameBytes}
 use Rattle.stored.proofs.StoreLaws.{store-front}
 use Rattle.stored.proofs.loads.is_form.Statement.{statement}
 use Rattle.stored.proofs.loads.is_form.Tie as tie
@@ -36,9 +36,20 @@ same-bytes-requires c κs = search needs
 returns : tie.Need-returns
 returns c =
     let s = c .before .before .before .before .before .before .before .before .before .args in
-    let room : lengthOf (s .book) ≤ length (replicate {A = ℕ} 5120 0) = omega (arith, length-replicate {A = ℕ} 5120 0, c .before .before .before .stored-length .ensures, c .before .before .before .before .live-count .ensures .0, c .before .before .before .before .live-count .ensures .1) in
+    let room : lengthOf (s .book) ≤ length (replicate {A = ℕ} 5120 0) =
+    omega (
+      arith,
+      length-replicate {A = ℕ} 5120 0,
+      c .before .before .before .stored-length .ensures,
+      c .before .before .before .before .live-count .ensures .0,
+      c .before .before .before .before .live-count .ensures .1,
+    ) in
     c .same-bytes .ensures
-    ∙ ap (sameBytes (s .bytes .now)) (store-front (s .book) (c .before .before .before .before .before .before .store .last .1 .0) (replicate 5120 0) (c .before .before .before .stored-length .result) (omega (arith, c .before .before .before .stored-length .ensures, c .before .before .before .before .live-count .ensures .0)) room (c .before .before .before .before .before .before .store .ensures .1))
+    ∙ ap (sameBytes (s .bytes .now))
+    (store-front (s .book) (c .before .before .before .before .before .before .store .last .1 .0) (replicate 5120 0)
+    (c .before .before .before .stored-length .result)
+    (omega (arith, c .before .before .before .stored-length .ensures, c .before .before .before .before .live-count .ensures .0)) room
+    (c .before .before .before .before .before .before .store .ensures .1))
 
 pub is-form-spec : {M : Type 1} → statement M
 is-form-spec =

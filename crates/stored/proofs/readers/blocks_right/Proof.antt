@@ -38,7 +38,9 @@ narrow-requires : tie.Need-narrow-requires Inv-loop μ-loop
 narrow-requires c κs = search needs
 
 block-right-requires : tie.Need-block-right-requires Inv-loop μ-loop
-block-right-requires c κs = part-length (c .before .before .before .before .before .args .bytes .now) (c .before .before .before .loop .block * 512) (omega (arith, c .before .before .before .before .before .pre))
+block-right-requires c κs =
+    part-length (c .before .before .before .before .before .args .bytes .now) (c .before .before .before .loop .block * 512)
+    (omega (arith, c .before .before .before .before .before .pre))
 
 both-requires : tie.Need-both-requires Inv-loop μ-loop
 both-requires c κs = search needs
@@ -54,8 +56,10 @@ loop-again c =
     let s = c .before .before .before .before .before .before .before .args in
     let l = c .before .before .before .before .before .loop in (
       omega arith,
-      right-next (s .bytes .now) (take (l .block * 512 + 512 - l .block * 512) (drop (l .block * 512) (s .bytes .now))) (l .block) (c .before .before .narrow .result) (l .right) (c .before .block-right .result) (c .both .result)
-          (l .inv .1) (part-is (s .bytes .now) (l .block)) (c .before .before .narrow .ensures) (c .before .block-right .ensures) (c .both .ensures),
+      right-next (s .bytes .now) (take (l .block * 512 + 512 - l .block * 512) (drop (l .block * 512) (s .bytes .now))) (l .block)
+          (c .before .before .narrow .result) (l .right) (c .before .block-right .result) (c .both .result)
+          (l .inv .1) (part-is (s .bytes .now) (l .block)) (c .before .before .narrow .ensures) (c .before .block-right .ensures)
+          (c .both .ensures),
     )
 
 returns : tie.Need-returns Inv-loop μ-loop

@@ -13,7 +13,10 @@ use Rattle.stored.proofs.readers.book_in.Statement.{statement}
 use Rattle.stored.proofs.readers.book_in.Tie as tie
 
 abbrev Inv-loop : tie.InvT-loop
-Inv-loop bytes live book₀ count block₀ book block = (1 ≤ block) × (block ≤ count) × (book ≡ bookOf (wordAt (partOf bytes 0) 0) (wordAt (partOf bytes 0) 2) (wordAt (partOf bytes 0) 4) (circuitsIn bytes live (block - 1)))
+Inv-loop bytes live book₀ count block₀ book block =
+    (1 ≤ block) × (block ≤ count)
+    × (book ≡ bookOf (wordAt (partOf bytes 0) 0) (wordAt (partOf bytes 0) 2) (wordAt (partOf bytes 0) 4)
+    (circuitsIn bytes live (block - 1)))
 
 abbrev μ-loop : tie.MeasureT-loop
 μ-loop bytes live book₀ count block₀ book block = count - block
@@ -47,8 +50,13 @@ blank-requires c κs = search needs
 
 loop-holds : tie.Need-loop-holds Inv-loop μ-loop
 loop-holds c =
-    let l = c .before .before .before .before .before .before .before .before .args .bytes .now in
-    (omega arith, omega (arith, c .before .before .before .before .before .before .before .before .pre), blank-steps (c .blank .result) (c .before .before .before .word-at2 .result) (c .before .before .word-at3 .result) (c .before .word-at4 .result) (wordAt (partOf l 0) 0) (wordAt (partOf l 0) 2) (wordAt (partOf l 0) 4) (c .blank .ensures) (c .before .before .before .word-at2 .ensures) (c .before .before .word-at3 .ensures) (c .before .word-at4 .ensures))
+    let l = c .before .before .before .before .before .before .before .before .args .bytes .now in (
+      omega arith,
+      omega (arith, c .before .before .before .before .before .before .before .before .pre),
+      blank-steps (c .blank .result) (c .before .before .before .word-at2 .result) (c .before .before .word-at3 .result)
+          (c .before .word-at4 .result) (wordAt (partOf l 0) 0) (wordAt (partOf l 0) 2) (wordAt (partOf l 0) 4) (c .blank .ensures)
+          (c .before .before .before .word-at2 .ensures) (c .before .before .word-at3 .ensures) (c .before .word-at4 .ensures),
+    )
 
 mul-start : tie.Need-mul-start Inv-loop μ-loop
 mul-start c = search needs
@@ -70,10 +78,14 @@ read-block-requires c κs =
     let l = c .before .before .before .before .before .before .before .before .before .before .before .args .bytes .now in
     let t = c .before .before .loop in
     let live = c .before .before .before .before .before .before .before .at-most-all .result in
-    let e : length (liveOf (t .book)) ≡ length (circuitsIn l live (t .block - 1)) = ap length (live-of (t .book) (wordAt (partOf l 0) 0) (wordAt (partOf l 0) 2) (wordAt (partOf l 0) 4) (circuitsIn l live (t .block - 1)) (t .inv .2)) in
+    let e : length (liveOf (t .book)) ≡ length (circuitsIn l live (t .block - 1)) =
+    ap length (live-of (t .book) (wordAt (partOf l 0) 0) (wordAt (partOf l 0) 2) (wordAt (partOf l 0) 4)
+    (circuitsIn l live (t .block - 1)) (t .inv .2)) in
     record {
-      size = part-length l (t .block * 512) (omega (arith, c .before .before .before .before .before .before .before .before .before .before .before .pre));
-      form = form-of (t .book) (wordAt (partOf l 0) 0) (wordAt (partOf l 0) 2) (wordAt (partOf l 0) 4) (circuitsIn l live (t .block - 1)) (t .inv .2);
+      size = part-length l (t .block * 512)
+          (omega (arith, c .before .before .before .before .before .before .before .before .before .before .before .pre));
+      form = form-of (t .book) (wordAt (partOf l 0) 0) (wordAt (partOf l 0) 2) (wordAt (partOf l 0) 4) (circuitsIn l live (t .block - 1))
+          (t .inv .2);
       some = omega (arith, circuits-few l live (t .block - 1));
       most = omega (arith, c .before .before .before .before .before .before .before .at-most-all .ensures);
     }
@@ -92,7 +104,9 @@ loop-again c =
     let e : t .block ≡ t .block + 1 - 1 = omega arith in (
       omega arith,
       omega arith,
-      read-next l (take (t .block * 512 + 512 - t .block * 512) (drop (t .block * 512) l)) live (wordAt (partOf l 0) 0) (wordAt (partOf l 0) 2) (wordAt (partOf l 0) 4) (t .block) (t .book) (c .read-block .result) (t .inv .0) (t .inv .2) (part-is l (t .block)) (c .read-block .ensures)
+      read-next l (take (t .block * 512 + 512 - t .block * 512) (drop (t .block * 512) l)) live (wordAt (partOf l 0) 0)
+          (wordAt (partOf l 0) 2) (wordAt (partOf l 0) 4) (t .block) (t .book) (c .read-block .result) (t .inv .0) (t .inv .2)
+          (part-is l (t .block)) (c .read-block .ensures)
           ∙ ap (λ (k : ℕ). bookOf (wordAt (partOf l 0) 0) (wordAt (partOf l 0) 2) (wordAt (partOf l 0) 4) (circuitsIn l live k)) e,
     )
 
@@ -105,7 +119,9 @@ returns c =
     let e : t .block - 1 ≡ length l / 512 - 1 = omega arith in
     t .inv .2
     ∙ ap (λ (k : ℕ). bookOf (wordAt (partOf l 0) 0) (wordAt (partOf l 0) 2) (wordAt (partOf l 0) 4) (circuitsIn l live k)) e
-    ∙ ap (λ (k : ℕ). bookOf (wordAt (partOf l 0) 0) (wordAt (partOf l 0) 2) (wordAt (partOf l 0) 4) (circuitsIn l k (length l / 512 - 1))) (c .before .before .before .before .before .before .at-most-all .ensures ∙ ap (min 512) (c .before .before .before .before .before .before .before .word-at .ensures))
+    ∙ ap (λ (k : ℕ). bookOf (wordAt (partOf l 0) 0) (wordAt (partOf l 0) 2) (wordAt (partOf l 0) 4) (circuitsIn l k (length l / 512 - 1)))
+    (c .before .before .before .before .before .before .at-most-all .ensures
+    ∙ ap (min 512) (c .before .before .before .before .before .before .before .word-at .ensures))
 
 pub book-in-spec : {M : Type 1} → statement M
 book-in-spec =

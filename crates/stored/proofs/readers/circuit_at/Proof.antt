@@ -41,15 +41,25 @@ vacant-requires c κs = search needs
 returns : tie.Need-returns
 returns c =
     let s = c .before .before .before .before .before .before .before .before .before .args in
-    circuit-steps (s .block .now) (s .at) (c .before .before .before .before .before .before .before .word-at .result) (c .before .before .before .before .before .before .word-at2 .result) (c .before .before .before .before .before .word-at3 .result) (c .before .before .before .before .word-at4 .result) (Served (c .before .fate .given .0 .0) (c .before .fate .given .0 .1 .0))
-    (c .before .before .before .before .before .before .before .word-at .ensures) (c .before .before .before .before .before .before .word-at2 .ensures) (c .before .before .before .before .before .word-at3 .ensures) (c .before .before .before .before .word-at4 .ensures) (sym (c .before .fate .given .1) ∙ c .before .before .before .fate-of .ensures)
+    circuit-steps (s .block .now) (s .at) (c .before .before .before .before .before .before .before .word-at .result)
+    (c .before .before .before .before .before .before .word-at2 .result) (c .before .before .before .before .before .word-at3 .result)
+    (c .before .before .before .before .word-at4 .result) (Served (c .before .fate .given .0 .0) (c .before .fate .given .0 .1 .0))
+    (c .before .before .before .before .before .before .before .word-at .ensures)
+    (c .before .before .before .before .before .before .word-at2 .ensures)
+    (c .before .before .before .before .before .word-at3 .ensures) (c .before .before .before .before .word-at4 .ensures)
+    (sym (c .before .fate .given .1) ∙ c .before .before .before .fate-of .ensures)
 
 returns-2 : tie.Need-returns-2
 returns-2 c =
     let s = c .before .before .before .before .before .before .before .before .before .args in
     c .vacant .ensures
-    ∙ circuit-steps (s .block .now) (s .at) (c .before .before .before .before .before .before .before .word-at .result) (c .before .before .before .before .before .before .word-at2 .result) (c .before .before .before .before .before .word-at3 .result) (c .before .before .before .before .word-at4 .result) Blocked
-    (c .before .before .before .before .before .before .before .word-at .ensures) (c .before .before .before .before .before .before .word-at2 .ensures) (c .before .before .before .before .before .word-at3 .ensures) (c .before .before .before .before .word-at4 .ensures) (sym (c .before .enum-told .given .1) ∙ c .before .before .before .fate-of .ensures)
+    ∙ circuit-steps (s .block .now) (s .at) (c .before .before .before .before .before .before .before .word-at .result)
+    (c .before .before .before .before .before .before .word-at2 .result) (c .before .before .before .before .before .word-at3 .result)
+    (c .before .before .before .before .word-at4 .result) Blocked
+    (c .before .before .before .before .before .before .before .word-at .ensures)
+    (c .before .before .before .before .before .before .word-at2 .ensures)
+    (c .before .before .before .before .before .word-at3 .ensures) (c .before .before .before .before .word-at4 .ensures)
+    (sym (c .before .enum-told .given .1) ∙ c .before .before .before .fate-of .ensures)
 
 pub circuit-at-spec : {M : Type 1} → statement M
 circuit-at-spec =

@@ -5,7 +5,8 @@ use native.Mathlib.Omega.{arith}
 use lib.ListN.{length}
 use borrow.Author.Needs.{needs}
 use Rattle.book.specs.Books.{liveOf}
-use Rattle.stored.specs.Reading.{recordsIn, extended}
+use Rattle.stored.specs.Reading.{recordsIn}
+use Rattle.stored.specs.Internal.Handing.{extended}
 use Rattle.stored.proofs.ReadLaws.{extended-next}
 use Rattle.stored.proofs.readers.read_block.Statement.{statement}
 use Rattle.stored.proofs.readers.read_block.Tie as tie
@@ -62,13 +63,20 @@ loop-again : tie.Need-loop-again Inv-loop μ-loop
 loop-again c =
     let s = c .before .before .before .before .before .before .before in
     let l = c .before .before .before .loop in
-    let h : c .before .before .before .before .before .live-count .result + l .i < 512 = omega (arith, c .before .before .before .before .block-share .ensures, s .pre .most) in
-    (omega arith, extended-next (s .args .book) (s .args .block .now) (l .filled) (c .before .before .before .before .before .live-count .result) (l .i) (c .narrow .result) (c .before .circuit-at .result) (l .inv .1) (c .before .before .before .before .before .live-count .ensures .0) h (c .narrow .ensures) (c .before .circuit-at .ensures))
+    let h : c .before .before .before .before .before .live-count .result + l .i < 512 =
+    omega (arith, c .before .before .before .before .block-share .ensures, s .pre .most) in (
+      omega arith,
+      extended-next (s .args .book) (s .args .block .now) (l .filled)
+          (c .before .before .before .before .before .live-count .result) (l .i) (c .narrow .result) (c .before .circuit-at .result)
+          (l .inv .1) (c .before .before .before .before .before .live-count .ensures .0) h (c .narrow .ensures)
+          (c .before .circuit-at .ensures),
+    )
 
 returns : tie.Need-returns Inv-loop μ-loop
 returns c =
     let s = c .before .before .before .before .before .args in
-    let e : c .before .loop .i ≡ min 63 (s .live - length (liveOf (s .book))) = omega (arith, c .before .before .block-share .ensures, c .before .before .before .live-count .ensures .0) in
+    let e : c .before .loop .i ≡ min 63 (s .live - length (liveOf (s .book))) =
+    omega (arith, c .before .before .block-share .ensures, c .before .before .before .live-count .ensures .0) in
     c .before .loop .inv .1 ∙ ap (λ (k : ℕ). extended (s .book) (recordsIn (s .block .now) k)) e
 
 pub read-block-spec : {M : Type 1} → statement M

@@ -32,10 +32,16 @@ same-length c = search needs
 
 returns : tie.Need-returns
 returns c =
-    let s = c .before .before .before .before .before .before .before .before .before .before .before .before .before .before .before .before .before .before in
+    let s = c .before .before .before .before .before .before .before .before .before .before .before .before .before .before .before
+    .before .before .before in
     record-steps (s .args .circuit) (s .args .at) (c .before .before .before .fate-field .result) (s .args .block .now)
-    (c .before .before .before .before .before .before .before .before .before .before .before .before .before .before .before .put-word .last .0) (c .before .before .before .before .before .before .before .before .before .before .before .put-word2 .last .0) (c .before .before .before .before .before .before .before .put-word3 .last .0) (c .before .before .put-word4 .last .0)
-    (s .pre) (c .before .before .before .fate-field .ensures) (c .before .before .before .before .before .before .before .before .before .before .before .before .before .before .before .put-word .ensures) (c .before .before .before .before .before .before .before .before .before .before .before .put-word2 .ensures) (c .before .before .before .before .before .before .before .put-word3 .ensures) (c .before .before .put-word4 .ensures)
+    (c .before .before .before .before .before .before .before .before .before .before .before .before .before .before .before .put-word
+    .last .0) (c .before .before .before .before .before .before .before .before .before .before .before .put-word2 .last .0)
+    (c .before .before .before .before .before .before .before .put-word3 .last .0) (c .before .before .put-word4 .last .0)
+    (s .pre) (c .before .before .before .fate-field .ensures)
+    (c .before .before .before .before .before .before .before .before .before .before .before .before .before .before .before .put-word
+    .ensures) (c .before .before .before .before .before .before .before .before .before .before .before .put-word2 .ensures)
+    (c .before .before .before .before .before .before .before .put-word3 .ensures) (c .before .before .put-word4 .ensures)
 
 pub put-record-spec : {M : Type 1} → statement M
 put-record-spec =

@@ -10,12 +10,15 @@ use borrow.Author.Needs.{needs}
 use borrow.Rule.Slice.PartMut.{putMid, same-len-mid}
 use Rattle.stored.specs.Forms.{blocks}
 use Rattle.stored.specs.Storing.{lengthOf}
-use Rattle.stored.proofs.StoreLaws.{part-length, stored-block-length, blocks-length, first-block, started, block-next, store-short, store-answer, store-done}
+use Rattle.stored.proofs.StoreLaws.{part-length, stored-block-length, blocks-length, first-block, started, block-next, store-short}
+use Rattle.stored.proofs.StoreLaws.{store-answer, store-done}
 use Rattle.stored.proofs.stores.store.Statement.{statement}
 use Rattle.stored.proofs.stores.store.Tie as tie
 
 abbrev Inv-loop : tie.InvT-loop
-Inv-loop book buffer₀ live whole block₀ buffer block = (1 ≤ block) × (block * 512 ≤ whole) × (whole ≤ length buffer) × (length buffer ≡ length buffer₀) × (buffer ≡ blocks book block ++ drop (512 * block) buffer₀)
+Inv-loop book buffer₀ live whole block₀ buffer block =
+    (1 ≤ block) × (block * 512 ≤ whole) × (whole ≤ length buffer) × (length buffer ≡ length buffer₀)
+    × (buffer ≡ blocks book block ++ drop (512 * block) buffer₀)
 
 abbrev μ-loop : tie.MeasureT-loop
 μ-loop book buffer₀ live whole block₀ buffer block = whole - block * 512
@@ -49,18 +52,42 @@ write-header-requires c κs =
     length-take-le 512 (s .buffer .now) (omega (arith, c .before .before .before .stored-length .ensures))
 
 -- block 0 is written
-front-is : (c : tie.After-slice-known2 Inv-loop μ-loop) → c .before .before .write-header .last .0 ≡ blocks (c .before .before .before .before .before .before .before .before .before .args .book) 1
-front-is c = first-block (c .before .before .before .before .before .before .before .before .before .args .book) (c .before .before .before .narrow .result) (c .before .before .write-header .last .0) (c .before .before .before .narrow .ensures ∙ c .before .before .before .before .before .before .before .live-count .ensures .0) (c .before .before .write-header .ensures)
+front-is : (c : tie.After-slice-known2 Inv-loop μ-loop)
+    → c .before .before .write-header .last .0
+    ≡ blocks (c .before .before .before .before .before .before .before .before .before .args .book) 1
+front-is c = first-block (c .before .before .before .before .before .before .before .before .before .args .book)
+    (c .before .before .before .narrow .result) (c .before .before .write-header .last .0) (c .before .before .before .narrow .ensures
+    ∙ c .before .before .before .before .before .before .before .live-count .ensures .0) (c .before .before .write-header .ensures)
 
-start-length : (c : tie.After-slice-known2 Inv-loop μ-loop) → length (c .before .before .write-header .last .0 ++ drop 512 (c .before .before .before .before .before .before .before .before .before .args .buffer .now)) ≡ length (c .before .before .before .before .before .before .before .before .before .args .buffer .now)
+start-length : (c : tie.After-slice-known2 Inv-loop μ-loop)
+    → length (c .before .before .write-header .last .0
+    ++ drop 512 (c .before .before .before .before .before .before .before .before .before .args .buffer .now))
+    ≡ length (c .before .before .before .before .before .before .before .before .before .args .buffer .now)
 start-length c =
-    let h : 512 ≤ length (c .before .before .before .before .before .before .before .before .before .args .buffer .now) = omega (arith, c .before .before .before .before .before .before .stored-length .ensures, c .before .before .before .before .before .if1 .left) in
-    omega (arith, length-append (c .before .before .write-header .last .0) (drop 512 (c .before .before .before .before .before .before .before .before .before .args .buffer .now)), length-drop 512 (c .before .before .before .before .before .before .before .before .before .args .buffer .now), ap length (front-is c), blocks-length (c .before .before .before .before .before .before .before .before .before .args .book) 1)
+    let h : 512 ≤ length (c .before .before .before .before .before .before .before .before .before .args .buffer .now) =
+    omega (
+      arith,
+      c .before .before .before .before .before .before .stored-length .ensures,
+      c .before .before .before .before .before .if1 .left,
+    ) in
+    omega (
+      arith,
+      length-append (c .before .before .write-header .last .0)
+          (drop 512 (c .before .before .before .before .before .before .before .before .before .args .buffer .now)),
+      length-drop 512 (c .before .before .before .before .before .before .before .before .before .args .buffer .now),
+      ap length (front-is c),
+      blocks-length (c .before .before .before .before .before .before .before .before .before .args .book) 1,
+    )
 
 loop-holds : tie.Need-loop-holds Inv-loop μ-loop
 loop-holds c =
-    let s = c .before .before .before .before .before .before .before .before .before .args in
-    (omega arith, omega (arith, c .before .before .before .before .before .before .stored-length .ensures), omega (arith, start-length c, c .before .before .before .before .before .if1 .left), refl, started (s .book) (c .before .before .write-header .last .0) (drop 512 (s .buffer .now)) (front-is c))
+    let s = c .before .before .before .before .before .before .before .before .before .args in (
+      omega arith,
+      omega (arith, c .before .before .before .before .before .before .stored-length .ensures),
+      omega (arith, start-length c, c .before .before .before .before .before .if1 .left),
+      refl,
+      started (s .book) (c .before .before .write-header .last .0) (drop 512 (s .buffer .now)) (front-is c),
+    )
 
 mul-loop : tie.Need-mul-loop Inv-loop μ-loop
 mul-loop c = search needs
@@ -84,10 +111,19 @@ write-records-requires : tie.Need-write-records-requires Inv-loop μ-loop
 write-records-requires c κs =
     let l = c .before .before .loop in
     record {
-      size = part-length (l .buffer) (l .block * 512) (omega (arith, c .before .before .before .before .before .before .before .before .before .stored-length .ensures));
+      size = part-length (l .buffer) (l .block * 512)
+          (omega (arith, c .before .before .before .before .before .before .before .before .before .stored-length .ensures));
       from = omega arith;
-      to = omega (arith, c .before .before .before .before .before .before .before .before .before .stored-length .ensures, c .before .before .before .before .before .before .before .before .before .before .live-count .ensures .1);
-      filled = omega (arith, c .before .before .before .before .before .before .before .before .before .stored-length .ensures, c .before .before .before .before .before .before .before .before .before .before .live-count .ensures .0);
+      to = omega (
+        arith,
+        c .before .before .before .before .before .before .before .before .before .stored-length .ensures,
+        c .before .before .before .before .before .before .before .before .before .before .live-count .ensures .1,
+      );
+      filled = omega (
+        arith,
+        c .before .before .before .before .before .before .before .before .before .stored-length .ensures,
+        c .before .before .before .before .before .before .before .before .before .before .live-count .ensures .0,
+      );
     }
 
 add-block : tie.Need-add-block Inv-loop μ-loop
@@ -99,13 +135,29 @@ loop-less c = search needs
 loop-again : tie.Need-loop-again Inv-loop μ-loop
 loop-again c =
     let l = c .before .before .before .before .before .loop in
-    let s = c .before .before .before .before .before .before .before .before .before .before .before .before .before .before .before .args in
-    let new = c .before .before .write-records .last .0 in
-    let room : l .block * 512 + 512 ≤ length (l .buffer) = omega (arith, c .before .before .before .before .before .before .before .before .before .before .before .before .stored-length .ensures) in
-    let same : length (putMid (l .block * 512) (l .block * 512 + 512 - l .block * 512) (l .buffer) new) ≡ length (l .buffer) =
-    same-len-mid (l .block * 512) (l .block * 512 + 512 - l .block * 512) (l .buffer) new (ap length (c .before .before .write-records .ensures) ∙ stored-block-length (s .book) (l .block) ∙ sym (part-length (l .buffer) (l .block * 512) room))
+    let s = c .before .before .before .before .before .before .before .before .before .before .before .before .before .before .before .args
     in
-    (omega arith, omega (arith, c .before .before .before .before .before .before .before .before .before .before .before .before .stored-length .ensures), omega arith, same ∙ l .inv .3, block-next (s .book) (l .buffer) _ new (l .block) (l .inv .4) (c .before .before .write-records .ensures))
+    let new = c .before .before .write-records .last .0 in
+    let room : l .block * 512 + 512 ≤ length (l .buffer) =
+    omega (
+      arith,
+      c .before .before .before .before .before .before .before .before .before .before .before .before .stored-length
+          .ensures,
+    ) in
+    let same : length (putMid (l .block * 512) (l .block * 512 + 512 - l .block * 512) (l .buffer) new) ≡ length (l .buffer) =
+    same-len-mid (l .block * 512) (l .block * 512 + 512 - l .block * 512) (l .buffer) new
+    (ap length (c .before .before .write-records .ensures) ∙ stored-block-length (s .book) (l .block)
+    ∙ sym (part-length (l .buffer) (l .block * 512) room))
+    in (
+      omega arith,
+      omega (
+        arith,
+        c .before .before .before .before .before .before .before .before .before .before .before .before .stored-length .ensures,
+      ),
+      omega arith,
+      same ∙ l .inv .3,
+      block-next (s .book) (l .buffer) _ new (l .block) (l .inv .4) (c .before .before .write-records .ensures),
+    )
 
 narrow-requires-2 : tie.Need-narrow-requires-2 Inv-loop μ-loop
 narrow-requires-2 c κs = search needs
@@ -121,9 +173,11 @@ returns-2 c =
     let l = c .before .before .loop in
     let live = c .before .before .before .before .before .before .before .before .before .before .live-count .ensures .0 in
     let whole = c .before .before .before .before .before .before .before .before .before .stored-length .ensures in
-    let room : lengthOf (s .book) ≤ length (s .buffer .now) = omega (arith, c .before .before .before .before .before .before .before .before .if1 .left) in (
+    let room : lengthOf (s .book) ≤ length (s .buffer .now) =
+    omega (arith, c .before .before .before .before .before .before .before .before .if1 .left) in (
       store-answer (s .book) (s .buffer .now) (c .narrow2 .result) (omega arith) room,
-      store-done (s .book) (l .buffer) (s .buffer .now) (c .before .before .before .before .before .write-header .last .0) (l .block) (omega arith) room (ap length (front-is (c .before .before .before)) ∙ blocks-length (s .book) 1) (l .inv .4),
+      store-done (s .book) (l .buffer) (s .buffer .now) (c .before .before .before .before .before .write-header .last .0) (l .block)
+          (omega arith) room (ap length (front-is (c .before .before .before)) ∙ blocks-length (s .book) 1) (l .inv .4),
     )
 
 pub store-spec : {M : Type 1} → statement M

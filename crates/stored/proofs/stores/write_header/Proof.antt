@@ -26,11 +26,24 @@ same-length c = search needs
 
 returns : tie.Need-returns
 returns c =
-    let s = c .before .before .before .before .before .before .before .before .before .before .before .before .before .before .before .before .before .before .before .before .before .before .before .before .before in
+    let s = c .before .before .before .before .before .before .before .before .before .before .before .before .before .before .before
+    .before .before .before .before .before .before .before .before .before .before in
     let a = s .args in
     header-steps (a .n) (a .w) (a .grants) (a .live) (a .block .now)
-    (c .before .before .before .before .before .before .before .before .before .before .before .before .before .before .before .before .before .before .before .before .before .before .clear .last .0) (c .before .before .before .before .before .before .before .before .before .before .before .before .before .before .before .before .before .before .put-word .last .0) (c .before .before .before .before .before .before .before .before .before .before .before .before .before .before .put-word2 .last .0) (c .before .before .before .before .before .before .before .before .before .before .put-word3 .last .0) (c .before .before .before .before .before .before .put-word4 .last .0) (c .before .before .seal .last .0)
-    (s .pre) (c .before .before .before .before .before .before .before .before .before .before .before .before .before .before .before .before .before .before .before .before .before .before .clear .ensures) (c .before .before .before .before .before .before .before .before .before .before .before .before .before .before .before .before .before .before .put-word .ensures) (c .before .before .before .before .before .before .before .before .before .before .before .before .before .before .put-word2 .ensures) (c .before .before .before .before .before .before .before .before .before .before .put-word3 .ensures) (c .before .before .before .before .before .before .put-word4 .ensures) (c .before .before .seal .ensures)
+    (c .before .before .before .before .before .before .before .before .before .before .before .before .before .before .before .before
+    .before .before .before .before .before .before .clear .last .0)
+    (c .before .before .before .before .before .before .before .before .before .before .before .before .before .before .before .before
+    .before .before .put-word .last .0)
+    (c .before .before .before .before .before .before .before .before .before .before .before .before .before .before .put-word2 .last
+    .0) (c .before .before .before .before .before .before .before .before .before .before .put-word3 .last .0)
+    (c .before .before .before .before .before .before .put-word4 .last .0) (c .before .before .seal .last .0)
+    (s .pre) (c .before .before .before .before .before .before .before .before .before .before .before .before .before .before .before
+    .before .before .before .before .before .before .before .clear .ensures)
+    (c .before .before .before .before .before .before .before .before .before .before .before .before .before .before .before .before
+    .before .before .put-word .ensures)
+    (c .before .before .before .before .before .before .before .before .before .before .before .before .before .before .put-word2
+    .ensures) (c .before .before .before .before .before .before .before .before .before .before .put-word3 .ensures)
+    (c .before .before .before .before .before .before .put-word4 .ensures) (c .before .before .seal .ensures)
 
 pub write-header-spec : {M : Type 1} → statement M
 write-header-spec =

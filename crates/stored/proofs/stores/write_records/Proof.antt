@@ -5,15 +5,19 @@ use native.Mathlib.Omega.{arith}
 use lib.ListN.{length, take, replicate, length-replicate}
 use borrow.Author.Needs.{needs}
 use Rattle.book.specs.declared.circuits.Circuit.{Circuit}
-use Rattle.stored.specs.Blocks.{blockOf, sealed, written}
+use Rattle.ring.specs.Buffers.{written}
+use Rattle.stored.specs.Blocks.{blockOf}
+use Rattle.stored.specs.Internal.Handing.{sealed}
 use Rattle.stored.specs.Forms.{recordBytes, recordsBytes, circuitsOf}
-use Rattle.stored.proofs.Lists.{pad, pad-none, written-length}
+use Rattle.ring.proofs.BufferLaws.{written-length}
+use Rattle.stored.proofs.Lists.{pad, pad-none}
 use Rattle.stored.proofs.RecordLaws.{record-next, records-sealed, share, share-few, share-at, later-contents}
 use Rattle.stored.proofs.stores.write_records.Statement.{statement}
 use Rattle.stored.proofs.stores.write_records.Tie as tie
 
 abbrev Inv-loop : tie.InvT-loop
-Inv-loop block₀ number book first count i₀ block i = (i ≤ count) × (length block ≡ 512) × (block ≡ pad (recordsBytes (take i (circuitsOf book (number - 1)))))
+Inv-loop block₀ number book first count i₀ block i =
+    (i ≤ count) × (length block ≡ 512) × (block ≡ pad (recordsBytes (take i (circuitsOf book (number - 1)))))
 
 abbrev μ-loop : tie.MeasureT-loop
 μ-loop block₀ number book first count i₀ block i = count - i
@@ -39,8 +43,12 @@ block-share-requires c κs = search needs
 loop-holds : tie.Need-loop-holds Inv-loop μ-loop
 loop-holds c =
     let e = c .before .before .before .before .clear .ensures in
-    let size = c .before .before .before .before .before .before .before .pre .size in
-    (omega arith, ap length e ∙ length-replicate (length (c .before .before .before .before .before .before .before .args .block .now)) 0 ∙ size, e ∙ ap (λ (j : ℕ). replicate j 0) size ∙ sym pad-none)
+    let size = c .before .before .before .before .before .before .before .pre .size in (
+      omega arith,
+      ap length e ∙ length-replicate (length (c .before .before .before .before .before .before .before .args .block .now)) 0
+          ∙ size,
+      e ∙ ap (λ (j : ℕ). replicate j 0) size ∙ sym pad-none,
+    )
 
 add-circuit : tie.Need-add-circuit Inv-loop μ-loop
 add-circuit c = search needs
@@ -68,12 +76,19 @@ loop-again c =
     let l = c .before .before .before .before .before .before in
     let s = c .before .before .before .before .before .before .before .before .before .before .before .before .before .before in
     let k = s .args .number - 1 in
-    let h : l .loop .i < length (circuitsOf (s .args .t2) k) = omega (arith, share (s .args .t2) k, c .before .before .before .before .before .before .before .block-share .ensures, c .before .before .before .before .before .before .before .before .live-count .ensures .0) in
+    let h : l .loop .i < length (circuitsOf (s .args .t2) k) =
+    omega (
+      arith,
+      share (s .args .t2) k,
+      c .before .before .before .before .before .before .before .block-share .ensures,
+      c .before .before .before .before .before .before .before .before .live-count .ensures .0,
+    ) in
     let few : length (circuitsOf (s .args .t2) k) ≤ 63 = share-few (s .args .t2) k in
     let e = c .before .before .put-record .ensures in (
       omega arith,
       ap length e ∙ written-length (l .loop .block) (8 * l .loop .i) (recordBytes _) (omega arith) ∙ l .loop .inv .1,
-      e ∙ ap (λ (x : Circuit). written (l .loop .block) (8 * l .loop .i) (recordBytes x)) (sym (share-at (s .args .t2) k (l .loop .i) h)) ∙ record-next (circuitsOf (s .args .t2) k) (l .loop .i) (l .loop .block) h few (l .loop .inv .2),
+      e ∙ ap (λ (x : Circuit). written (l .loop .block) (8 * l .loop .i) (recordBytes x)) (sym (share-at (s .args .t2) k (l .loop .i) h))
+          ∙ record-next (circuitsOf (s .args .t2) k) (l .loop .i) (l .loop .block) h few (l .loop .inv .2),
     )
 
 narrow-requires : tie.Need-narrow-requires Inv-loop μ-loop
@@ -90,10 +105,17 @@ returns c =
     let l = c .before .before .before .before .before .before in
     let s = c .before .before .before .before .before .before .before .before .before .before .before .before .before .before in
     let k = s .args .number - 1 in
-    let h : length (circuitsOf (s .args .t2) k) ≤ l .loop .i = omega (arith, share (s .args .t2) k, c .before .before .before .before .before .before .before .block-share .ensures, c .before .before .before .before .before .before .before .before .live-count .ensures .0) in
+    let h : length (circuitsOf (s .args .t2) k) ≤ l .loop .i =
+    omega (
+      arith,
+      share (s .args .t2) k,
+      c .before .before .before .before .before .before .before .block-share .ensures,
+      c .before .before .before .before .before .before .before .before .live-count .ensures .0,
+    ) in
     c .before .before .seal .ensures
     ∙ ap (λ (j : ℕ). sealed j (l .loop .block)) (c .before .before .before .narrow .ensures)
-    ∙ records-sealed (s .args .number) (circuitsOf (s .args .t2) k) (l .loop .i) (l .loop .block) h (share-few (s .args .t2) k) (l .loop .inv .2)
+    ∙ records-sealed (s .args .number) (circuitsOf (s .args .t2) k) (l .loop .i) (l .loop .block) h (share-few (s .args .t2) k)
+    (l .loop .inv .2)
     ∙ ap (blockOf (s .args .number)) (sym (later-contents (s .args .t2) (s .args .number) (s .pre .from)))
 
 pub write-records-spec : {M : Type 1} → statement M

@@ -46,7 +46,8 @@ returns c =
     let s = here .before .before in
     let b = s .args .t1 in
     let h : here .loop .i < length (liveOf b) = omega (arith, here .before .live-count .ensures .0) in
-    walk-stop b (here .loop .held) _ (here .loop .last) (here .loop .i) _ _ (s .pre) h (here .loop .inv .1) (live-at b (here .loop .i) h) (follow .may-follow .ensures) (not-true _ (c .if1 .taken))
+    walk-stop b (here .loop .held) _ (here .loop .last) (here .loop .i) _ _ (s .pre) h (here .loop .inv .1) (live-at b (here .loop .i) h)
+    (follow .may-follow .ensures) (not-true _ (c .if1 .taken))
 
 add-i : tie.Need-add-i Inv-loop μ-loop
 add-i c = search needs
@@ -60,8 +61,11 @@ loop-again c =
     let here = follow .before .before .before .before in
     let s = here .before .before in
     let b = s .args .t1 in
-    let h : here .loop .i < length (liveOf b) = omega (arith, here .before .live-count .ensures .0) in
-    (omega arith, walk-turn b (here .loop .held) _ (here .loop .last) (here .loop .i) _ _ (s .pre) h (here .loop .inv .1) (live-at b (here .loop .i) h) (follow .may-follow .ensures) (not-false _ (c .if1 .left)))
+    let h : here .loop .i < length (liveOf b) = omega (arith, here .before .live-count .ensures .0) in (
+      omega arith,
+      walk-turn b (here .loop .held) _ (here .loop .last) (here .loop .i) _ _ (s .pre) h (here .loop .inv .1)
+          (live-at b (here .loop .i) h) (follow .may-follow .ensures) (not-false _ (c .if1 .left)),
+    )
 
 returns-2 : tie.Need-returns-2 Inv-loop μ-loop
 returns-2 c =

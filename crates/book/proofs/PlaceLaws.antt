@@ -1,0 +1,177 @@
+-- A record takes the first place behind the live ones, which is vacant, and a removal leaves one vacant place more.
+use Prim.Native.Nat.{ℕ, zero, suc, _+_, _-_, _≤_, _<_}
+use mathlib.Core.Path.{_≡_, refl, _∙_, ap, subst}
+use mathlib.Core.Bool.{_||_}
+use mathlib.Core.List.{List, [], _∷_, _++_}
+use mathlib.Core.Logic.{⊎-elim}
+use native.Mathlib.Omega.{arith}
+use lib.Dec.{eqb, leb, ltb}
+use lib.ListN.{length, replicate, length-append, length-replicate, getD-replicate}
+use lib.Seq.{getD-append-add, getD-set-same, getD-set-other}
+use borrow.Author.Tests.{ne-eqb, leb-true}
+use Rattle.ring.specs.declared.refusals.Refusal.the-variants.{CircuitEnd, CircuitEndsEqual, WayNumber, ColourNumber, ColourHeld, BookFull}
+use Rattle.ring.specs.declared.refusals.Refusal.the-variants.{SerialsUsedUp}
+use Rattle.ring.specs.declared.refusals.Verdict.{Verdict}
+use Rattle.ring.specs.declared.refusals.Verdict.the-variants as verdict
+use Rattle.ring.specs.Requests.{requestOf}
+use Rattle.ring.specs.Refusals.{refuseIf, orElse}
+use Rattle.ring.specs.Admission.{endsVerdict}
+use Rattle.ring.proofs.Cases.{impossible}
+use Rattle.ring.proofs.AdmissionLaws.{refuse-refused, either-refused}
+use Rattle.book.specs.declared.circuits.Circuit.{Circuit}
+use Rattle.book.specs.declared.books.Book.{Book}
+use Rattle.book.specs.declared.grants.GrantAnswer.the-variants as grant
+use Rattle.book.specs.declared.removals.RemoveAnswer.the-variants as remove
+use Rattle.book.specs.declared.orders.Lookup.{Lookup}
+use Rattle.book.specs.declared.orders.Lookup.the-variants.{Found, Missing}
+use Rattle.book.specs.Circuits.{vacant, circuit}
+use Rattle.book.specs.Books.{liveOf, Valid}
+use Rattle.book.specs.Grants.{wayOf, circuitOf, colourHeld, argumentVerdict, roomVerdict, grantVerdict, withCircuit, grantUnless}
+use Rattle.book.specs.Grants.{granted}
+use Rattle.book.specs.Orders.{lookup, missing}
+use Rattle.book.specs.Removals.{without, withoutCircuit, removeFound, removed}
+use Rattle.book.specs.Places.{TakesVacantPlace, vacantPlaces, PlacesUsedAgain}
+use Rattle.book.proofs.Forms.{live-form, valid-live, without-form, length-without}
+use Rattle.book.proofs.Lookups.{found-place}
+use Rattle.book.proofs.Validity.{removal-valid}
+use Rattle.book.proofs.Verdicts.{good-grant}
+
+-- ---- counting
+
+none-vacant : (k : ℕ) → vacantPlaces (replicate k vacant) ≡ k
+none-vacant zero = refl
+none-vacant (suc k) = omega (arith, none-vacant k)
+
+-- circuits with serials, and vacant records behind them
+counted : (cs : List Circuit) (k : ℕ) → ((i : ℕ) → i < length cs → 1 ≤ circuit cs i .serial) → vacantPlaces (cs ++ replicate k vacant) ≡ k
+counted [] k h = none-vacant k
+counted (c ∷ cs) k h =
+    let first = h 0 (omega arith) in
+    rw (ne-eqb (c .serial) 0 (omega arith)) (omega (arith, counted cs k (λ i l. h (suc i) (omega arith))))
+
+module _ (b : Book) (v : Valid b) where
+  abbrev cs : List Circuit
+  cs = liveOf b
+
+  -- the places of a valid book
+  laid : b .places ≡ cs ++ replicate (512 - length cs) vacant
+  laid = ap (λ (d : Book). d .places) (v .form)
+
+  vacant-count : vacantPlaces (b .places) ≡ 512 - length cs
+  vacant-count = ap vacantPlaces laid ∙ (counted cs (512 - length cs) (λ i h. v .circuits .given i h .0))
+
+  all-places : length (b .places) ≡ 512
+  all-places = ap length laid ∙ simp (length-append, length-replicate) (omega (arith, v .circuits .room))
+
+  -- behind the live circuits every place is vacant
+  behind : b .live < 512 → circuit (b .places) (b .live) ≡ vacant
+  behind h =
+      let here : b .live ≡ length cs + 0 = omega (arith, valid-live b v) in
+      let more : 0 < 512 - length cs = omega (arith, valid-live b v) in
+      ap (circuit (b .places)) here
+      ∙ ap (λ (ps : List Circuit). circuit ps (length cs + 0)) laid
+      ∙ getD-append-add cs (replicate (512 - length cs) vacant) 0 vacant
+      ∙ getD-replicate (512 - length cs) 0 vacant vacant more
+
+  with-place : (c : Circuit) → b .live < 512 → TakesVacantPlace b (withCircuit b c) c
+  with-place c h = record {
+    place = b .live;
+    within = h;
+    was-vacant = behind h;
+    taken = getD-set-same (b .places) (b .live) c vacant (omega (arith, all-places));
+    others = λ i d. getD-set-other (b .places) (b .live) i c vacant (λ e. d e);
+  }
+
+module _ (b : Book) (v : Valid b) where
+  takes : (x y way colour serial : ℕ) → granted b x y way colour .answer ≡ grant.Granted serial
+      → TakesVacantPlace b (granted b x y way colour .book) (circuitOf serial x y way colour)
+  unfolding granted
+  takes x y way colour serial e = go (grantVerdict b x y way colour) refl e
+    where
+      go : (t : Verdict) → grantVerdict b x y way colour ≡ t
+          → grantUnless t b (circuitOf (b .grants + 1) x y way colour) .answer ≡ grant.Granted serial
+          → TakesVacantPlace b (grantUnless t b (circuitOf (b .grants + 1) x y way colour) .book) (circuitOf serial x y way colour)
+      go verdict.Allowed q f =
+          let s : b .grants + 1 ≡ serial = cc in
+          subst (λ (k : ℕ). TakesVacantPlace b (withCircuit b (circuitOf (b .grants + 1) x y way colour)) (circuitOf k x y way colour)) s
+          (with-place b v (circuitOf (b .grants + 1) x y way colour) (good-grant b x y way colour q .places))
+      go (verdict.Refused r) q f = impossible (cc)
+
+  -- a removal leaves one circuit less
+  one-less : (i : ℕ) → i < length (liveOf b) → vacantPlaces (withoutCircuit i b .places) ≡ suc (vacantPlaces (b .places))
+  one-less i h =
+      let left : length (liveOf (withoutCircuit i b)) ≡ length (without i (liveOf b)) =
+      ap (λ (d : Book). length (liveOf d)) (without-form b v i h)
+      ∙ ap length (live-form (b .n) (b .w) (b .grants) (without i (liveOf b))) in
+      omega (
+        arith,
+        vacant-count b v,
+        vacant-count (withoutCircuit i b) (removal-valid b v i h),
+        length-without i (liveOf b) h,
+        v .circuits .room,
+      )
+
+  frees : (serial : ℕ) → removed b serial .answer ≡ remove.Removed
+      → vacantPlaces (removed b serial .book .places) ≡ suc (vacantPlaces (b .places))
+  unfolding removed
+  frees serial e = go (lookup b serial) (found-place b serial) e
+    where
+      go : (l : Lookup) → ((i : ℕ) (c : Circuit) → l ≡ Found i c → i < length (liveOf b))
+          → removeFound l (missing b serial) b .answer ≡ remove.Removed
+          → vacantPlaces (removeFound l (missing b serial) b .book .places) ≡ suc (vacantPlaces (b .places))
+      go (Found i c) f q = one-less i (f i c refl)
+      go Missing f q = impossible (cc)
+
+-- 12 is said only by the test for places
+full-argument : (n w x y way colour : ℕ) → argumentVerdict n w x y way colour ≡ verdict.Refused BookFull → ⊥
+unfolding argumentVerdict endsVerdict
+full-argument n w x y way colour e =
+    let outside = refuseIf (leb n x || leb n y) CircuitEnd in
+    let equal = refuseIf (eqb x y) CircuitEndsEqual in
+    let ways = refuseIf (ltb 1 way) WayNumber in
+    let colours = refuseIf (leb w colour) ColourNumber in
+    ⊎-elim
+    (λ p. ⊎-elim
+    (λ q. let g = refuse-refused (leb n x || leb n y) CircuitEnd BookFull q in impossible (cc))
+    (λ q. let g = refuse-refused (eqb x y) CircuitEndsEqual BookFull q in impossible (cc))
+    (either-refused outside equal BookFull p))
+    (λ p. ⊎-elim
+    (λ q. let g = refuse-refused (ltb 1 way) WayNumber BookFull q in impossible (cc))
+    (λ q. let g = refuse-refused (leb w colour) ColourNumber BookFull q in impossible (cc))
+    (either-refused ways colours BookFull p))
+    (either-refused (orElse outside equal) (orElse ways colours) BookFull e)
+
+full-room : (live grants : ℕ) → roomVerdict live grants ≡ verdict.Refused BookFull → 512 ≤ live
+unfolding roomVerdict
+full-room live grants e =
+    ⊎-elim
+    (λ p. leb-true 512 live (refuse-refused (leb 512 live) BookFull BookFull p .0))
+    (λ p. let g = refuse-refused (leb 65535 grants) SerialsUsedUp BookFull p in impossible (cc))
+    (either-refused (refuseIf (leb 512 live) BookFull) (refuseIf (leb 65535 grants) SerialsUsedUp) BookFull e)
+
+full-verdict : (b : Book) (x y way colour : ℕ) → grantVerdict b x y way colour ≡ verdict.Refused BookFull → 512 ≤ b .live
+unfolding grantVerdict
+full-verdict b x y way colour e =
+    let held = colourHeld b (wayOf way) (requestOf x y) colour in
+    let room = roomVerdict (b .live) (b .grants) in
+    ⊎-elim
+    (λ p. absurd (full-argument (b .n) (b .w) x y way colour p))
+    (λ p. ⊎-elim
+    (λ q. let g = refuse-refused held ColourHeld BookFull q in impossible (cc))
+    (full-room (b .live) (b .grants))
+    (either-refused (refuseIf held ColourHeld) room BookFull p))
+    (either-refused (argumentVerdict (b .n) (b .w) x y way colour) (orElse (refuseIf held ColourHeld) room) BookFull e)
+
+full : (b : Book) → Valid b → (x y way colour : ℕ) → granted b x y way colour .answer ≡ grant.Refused BookFull
+    → vacantPlaces (b .places) ≡ 0
+unfolding granted
+full b v x y way colour e =
+    omega (arith, vacant-count b v, valid-live b v, full-verdict b x y way colour (go (grantVerdict b x y way colour) e))
+  where
+    go : (t : Verdict) → grantUnless t b (circuitOf (b .grants + 1) x y way colour) .answer ≡ grant.Refused BookFull
+        → t ≡ verdict.Refused BookFull
+    go verdict.Allowed q = impossible (cc)
+    go (verdict.Refused r) q = cc
+
+pub places-used-again : PlacesUsedAgain
+places-used-again b v = record { takes = takes b v; frees = frees b v; full = full b v }

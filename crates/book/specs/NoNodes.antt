@@ -1,0 +1,26 @@
+-- The book that comes with a refusal of open or load.
+use Prim.Native.Nat.{ℕ}
+use mathlib.Core.Path.{_≡_}
+use mathlib.Core.List.{[]}
+use Rattle.ring.specs.declared.refusals.Refusal.the-variants.{CircuitEnd, SerialNeverGiven, LinkNumber}
+use Rattle.ring.specs.declared.refusals.Verdict.the-variants.{Refused}
+use Rattle.book.specs.declared.books.Book.{Book}
+use Rattle.book.specs.declared.removals.RemoveAnswer.the-variants as remove
+use Rattle.book.specs.declared.orders.ShowAnswer.the-variants as show
+use Rattle.book.specs.declared.holders.HolderAnswer.the-variants as holder
+use Rattle.book.specs.Books.{bookOf}
+use Rattle.book.specs.Grants.{argumentVerdict}
+use Rattle.book.specs.Orders.{shown}
+use Rattle.book.specs.Removals.{removed}
+use Rattle.book.specs.Holders.{heldBy}
+
+-- a book of no nodes
+abbrev pub noNodes : Book
+noNodes = bookOf 0 0 0 []
+
+-- the promise that it turns every call down: a grant by 4, which lies in its arguments, an order by 14, a link by 16
+pub record TurnsAllDown : Type 0 where
+  pub grants : (x y way colour : ℕ) → argumentVerdict (noNodes .n) (noNodes .w) x y way colour ≡ Refused CircuitEnd
+  pub removals : (serial : ℕ) → removed noNodes serial ≡ record { answer = remove.Refused SerialNeverGiven; book = noNodes }
+  pub orders : (serial : ℕ) → shown noNodes serial ≡ show.Refused SerialNeverGiven
+  pub holders : (link colour : ℕ) → heldBy noNodes link colour ≡ holder.Refused LinkNumber

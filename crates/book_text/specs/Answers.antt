@@ -1,0 +1,144 @@
+-- What a command answers and does, by what the file holds.
+use Prim.Native.Nat.{ℕ}
+use mathlib.Core.Path.{_≡_}
+use mathlib.Core.Bool.{Bool, true, false}
+use mathlib.Core.List.{List, []}
+use Rattle.book.specs.declared.books.Book.{Book}
+use Rattle.book.specs.declared.books.OpenAnswer.{OpenAnswer}
+use Rattle.book.specs.declared.books.OpenAnswer.the-variants as opening
+use Rattle.book.specs.declared.grants.GrantAnswer.{GrantAnswer}
+use Rattle.book.specs.declared.grants.GrantAnswer.the-variants as grant
+use Rattle.book.specs.declared.removals.RemoveAnswer.{RemoveAnswer}
+use Rattle.book.specs.declared.removals.RemoveAnswer.the-variants as remove
+use Rattle.book.specs.declared.orders.ShowAnswer.{ShowAnswer}
+use Rattle.book.specs.declared.orders.ShowAnswer.the-variants as show
+use Rattle.book.specs.declared.holders.HolderAnswer.{HolderAnswer}
+use Rattle.book.specs.declared.holders.HolderAnswer.the-variants as holder
+use Rattle.book.specs.Books.{Valid, bookOf, opened}
+use Rattle.book.specs.Grants.{granted}
+use Rattle.book.specs.Removals.{removed}
+use Rattle.book.specs.Orders.{shown}
+use Rattle.book.specs.Holders.{heldBy}
+use Rattle.stored.specs.declared.loads.LoadAnswer.{LoadAnswer}
+use Rattle.stored.specs.declared.loads.LoadAnswer.the-variants as load
+use Rattle.stored.specs.Loading.{loaded}
+use Rattle.book_text.specs.declared.lines.Command.{Command}
+use Rattle.book_text.specs.declared.lines.Command.the-variants as command
+use Rattle.book_text.specs.declared.answers.State.{State}
+use Rattle.book_text.specs.declared.answers.State.the-variants.{Absent, Broken, Sound}
+use Rattle.book_text.specs.declared.answers.Contents.{Contents}
+use Rattle.book_text.specs.declared.answers.Reply.{Reply}
+use Rattle.book_text.specs.declared.answers.Reply.the-variants.{Opened, Granted, Removed, Circuit, Free, Held}
+use Rattle.book_text.specs.declared.answers.Reply.the-variants.{Count, Orders, Refused, BookThere, NoBook, Aside}
+use Rattle.book_text.specs.declared.answers.Answered.{Answered}
+
+-- the state of a file by what load answers
+abbrev pub stateOf : LoadAnswer → State
+stateOf load.Loaded = Sound
+stateOf (load.Refused r) = Broken r
+
+-- what a file holds; without a book, a book of no nodes stands for it
+abbrev pub contentsIn : Bool → List ℕ → Contents
+contentsIn false bytes = record { state = Absent; book = bookOf 0 0 0 [] }
+contentsIn true bytes = record { state = stateOf (loaded bytes .answer); book = loaded bytes .book }
+
+-- the book, if there is one, is a valid one
+abbrev pub ValidContents : Contents → Type 0
+ValidContents contents = contents .state ≡ Sound → Valid (contents .book)
+
+-- an answer that changes nothing
+abbrev pub only : Book → Reply → Answered
+only b reply = record { reply = reply; changes = false; book = b }
+
+-- an answer with a book that is to be stored
+abbrev pub replacing : Book → Reply → Answered
+replacing b reply = record { reply = reply; changes = true; book = b }
+
+-- opening, by the book's own answer: a refusal changes nothing
+abbrev pub openingBy : Book → ℕ → ℕ → OpenAnswer → Book → Answered
+openingBy b n w opening.Opened fresh = replacing fresh (Opened n w)
+openingBy b n w (opening.Refused r) fresh = only b (Refused r)
+
+-- a grant, by the book's own answer
+abbrev pub grantingBy : Book → GrantAnswer → Book → Answered
+grantingBy b (grant.Granted serial) next = replacing next (Granted serial)
+grantingBy b (grant.Refused r) next = only b (Refused r)
+
+-- a removal, by the book's own answer
+abbrev pub removingBy : Book → ℕ → RemoveAnswer → Book → Answered
+removingBy b serial remove.Removed next = replacing next (Removed serial)
+removingBy b serial (remove.Refused r) next = only b (Refused r)
+
+-- what show replies, by the book's own answer
+abbrev pub showingBy : ShowAnswer → Reply
+showingBy (show.Shown c) = Circuit (c .a) (c .b) (c .way) (c .colour)
+showingBy (show.Refused r) = Refused r
+
+-- what holder replies, by the book's own answer
+abbrev pub holdingBy : HolderAnswer → Reply
+holdingBy holder.Free = Free
+holdingBy (holder.Held serial) = Held serial
+holdingBy (holder.Refused r) = Refused r
+
+-- `open N W`
+abbrev pub openingAnswer : Book → ℕ → ℕ → Answered
+openingAnswer b n w = openingBy b n w (opened n w .answer) (opened n w .book)
+
+-- `grant X Y WAY COLOUR`
+abbrev pub grantAnswer : Book → ℕ → ℕ → ℕ → ℕ → Answered
+grantAnswer b x y way colour = grantingBy b (granted b x y way colour .answer) (granted b x y way colour .book)
+
+-- `remove SERIAL`
+abbrev pub removeAnswer : Book → ℕ → Answered
+removeAnswer b serial = removingBy b serial (removed b serial .answer) (removed b serial .book)
+
+-- `show SERIAL`
+abbrev pub showReply : Book → ℕ → Reply
+showReply b serial = showingBy (shown b serial)
+
+-- `holder LINK COLOUR`
+abbrev pub holderReply : Book → ℕ → ℕ → Reply
+holderReply b link colour = holdingBy (heldBy b link colour)
+
+-- a command that there is no book for gets this reply; an aside asks for none
+abbrev pub turnedDown : Book → Reply → Command → Answered
+turnedDown b reply (command.Open n w) = only b reply
+turnedDown b reply (command.Grant x y way colour) = only b reply
+turnedDown b reply (command.Remove serial) = only b reply
+turnedDown b reply (command.Show serial) = only b reply
+turnedDown b reply (command.Holder link colour) = only b reply
+turnedDown b reply command.Count = only b reply
+turnedDown b reply command.List = only b reply
+turnedDown b reply (command.Aside a) = only b (Aside a)
+
+-- where there is no file, a book may be opened
+abbrev pub answeredNone : Book → Command → Answered
+answeredNone b (command.Open n w) = openingAnswer b n w
+answeredNone b (command.Grant x y way colour) = only b NoBook
+answeredNone b (command.Remove serial) = only b NoBook
+answeredNone b (command.Show serial) = only b NoBook
+answeredNone b (command.Holder link colour) = only b NoBook
+answeredNone b command.Count = only b NoBook
+answeredNone b command.List = only b NoBook
+answeredNone b (command.Aside a) = only b (Aside a)
+
+-- where there is a book, it is asked
+abbrev pub answeredBook : Book → Command → Answered
+answeredBook b (command.Open n w) = only b BookThere
+answeredBook b (command.Grant x y way colour) = grantAnswer b x y way colour
+answeredBook b (command.Remove serial) = removeAnswer b serial
+answeredBook b (command.Show serial) = only b (showReply b serial)
+answeredBook b (command.Holder link colour) = only b (holderReply b link colour)
+answeredBook b command.Count = only b (Count (b .live) (b .grants))
+answeredBook b command.List = only b Orders
+answeredBook b (command.Aside a) = only b (Aside a)
+
+-- by the state of the file: one that load refuses gets its refusal for an answer
+abbrev pub answeredIn : State → Book → Command → Answered
+answeredIn Absent b c = answeredNone b c
+answeredIn (Broken r) b c = turnedDown b (Refused r) c
+answeredIn Sound b c = answeredBook b c
+
+-- the answer to a command, and the book after it
+unfoldable pub answered : Contents → Command → Answered
+answered contents c = answeredIn (contents .state) (contents .book) c

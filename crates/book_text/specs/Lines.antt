@@ -1,0 +1,119 @@
+-- What a line says.
+use Prim.Native.Nat.{ℕ, _-_}
+use mathlib.Core.Bool.{Bool, true, false, cond, not, _&&_}
+use mathlib.Core.List.{List, [], _∷_}
+use lib.Dec.{eqb, ltb}
+use lib.ListN.{length, drop, getD}
+use Rattle.ring.specs.Buffers.{sameBytes}
+use Rattle.texts.specs.Fields.{space, lineFeed, field, onField, line, onLine}
+use Rattle.book_text.specs.declared.lines.Command.{Command}
+use Rattle.book_text.specs.declared.lines.Command.the-variants as command
+use Rattle.book_text.specs.declared.lines.Aside.the-variants as aside
+use Rattle.book_text.specs.declared.lines.Single.{Single}
+use Rattle.book_text.specs.declared.lines.Single.the-variants as single
+use Rattle.book_text.specs.declared.lines.Pair.{Pair}
+use Rattle.book_text.specs.declared.lines.Pair.the-variants as pair
+use Rattle.texts.specs.Bytes.{bytes}
+
+-- a line that is no command
+abbrev pub unreadable : Command
+unreadable = command.Aside aside.Unreadable
+
+-- the text begins with the word
+abbrev pub starts : List ℕ → List ℕ → Bool
+starts [] text = true
+starts (b ∷ word) [] = false
+starts (b ∷ word) (x ∷ text) = eqb b x && starts word text
+
+-- this, if nothing stands behind it, or that
+abbrev pub ended : {A : Type 0} → List ℕ → A → A → A
+ended [] this that = this
+ended (b ∷ text) this that = that
+
+-- one number, "closed by a line feed"
+unfoldable pub singleOf : List ℕ → Single
+singleOf text = onField (field lineFeed text) single.Broken (λ x rest. ended rest (single.One x) single.Broken)
+
+-- two numbers, "one space between"
+unfoldable pub pairOf : List ℕ → Pair
+pairOf text = onLine (line text) pair.Broken (λ x y rest. ended rest (pair.Two x y) pair.Broken)
+
+-- what follows from one number, and what where there is none
+abbrev pub onSingle : Single → (ℕ → Command) → Command
+onSingle single.Broken next = unreadable
+onSingle (single.One x) next = next x
+
+-- the same of two
+abbrev pub onPair : Pair → (ℕ → ℕ → Command) → Command
+onPair pair.Broken next = unreadable
+onPair (pair.Two x y) next = next x y
+
+-- `N W`, behind `open `
+unfoldable pub openOf : List ℕ → Command
+openOf text = onPair (pairOf text) (λ n w. command.Open n w)
+
+-- `X Y WAY COLOUR`, behind `grant `
+unfoldable pub grantOf : List ℕ → Command
+grantOf text =
+    onField (field space text) unreadable
+    (λ x behind. onField (field space behind) unreadable (λ y rest. onPair (pairOf rest) (λ way colour. command.Grant x y way colour)))
+
+-- `SERIAL`, behind `remove `
+unfoldable pub removeOf : List ℕ → Command
+removeOf text = onSingle (singleOf text) (λ serial. command.Remove serial)
+
+-- `SERIAL`, behind `show `
+unfoldable pub showOf : List ℕ → Command
+showOf text = onSingle (singleOf text) (λ serial. command.Show serial)
+
+-- `LINK COLOUR`, behind `holder `
+unfoldable pub holderOf : List ℕ → Command
+holderOf text = onPair (pairOf text) (λ link colour. command.Holder link colour)
+
+-- what follows from the text behind a word, and what if the line does not begin with it
+abbrev pub onWord : List ℕ → List ℕ → (List ℕ → Command) → Command → Command
+onWord word text next otherwise = cond (starts word text) (next (drop (length word) text)) otherwise
+
+-- a command with numbers behind its word; a line that is none of these is not understood
+unfoldable pub commandWithNumbers : List ℕ → Command
+commandWithNumbers text =
+    onWord (bytes "open ") text openOf
+    (onWord (bytes "grant ") text grantOf
+    (onWord (bytes "remove ") text removeOf
+    (onWord (bytes "show ") text showOf
+    (onWord (bytes "holder ") text holderOf
+    unreadable))))
+
+-- the command of a line whose spaces are squeezed
+unfoldable pub commandIn : List ℕ → Command
+commandIn text =
+    cond (sameBytes text (bytes "\n")) (command.Aside aside.Nothing)
+    (cond (sameBytes text (bytes "count\n")) command.Count
+    (cond (sameBytes text (bytes "list\n")) command.List
+    (cond (sameBytes text (bytes "help\n")) (command.Aside aside.Help)
+    (commandWithNumbers text))))
+
+-- "several spaces count as one", and none at the ends of a line; `begun` says that a word came before, `apart` that spaces came since
+abbrev pub squeezedFrom : Bool → Bool → List ℕ → List ℕ
+squeezedFrom begun apart [] = []
+squeezedFrom begun apart (b ∷ text) =
+    cond (eqb b space) (squeezedFrom begun begun text)
+    (cond (apart && not (eqb b lineFeed)) (space ∷ b ∷ squeezedFrom true false text) (b ∷ squeezedFrom true false text))
+
+-- the line with its spaces squeezed
+unfoldable pub squeezed : List ℕ → List ℕ
+squeezed line = squeezedFrom false false line
+
+-- the line feed that ends a line is there
+unfoldable pub finished : List ℕ → Bool
+finished line = eqb (getD line (length line - 1) 0) lineFeed
+
+-- what is heard of a line of at most 1,024 bytes
+unfoldable pub heard : List ℕ → List ℕ
+heard line = cond (ltb 1024 (length line)) [] (squeezed line)
+
+-- the command of a line: a longer line, or one without its line feed, is not obeyed
+unfoldable pub commandOf : List ℕ → Command
+commandOf line =
+    cond (ltb 1024 (length line)) (command.Aside aside.TooLong)
+    (cond (finished line) (commandIn (squeezed line)) (command.Aside aside.Unfinished))

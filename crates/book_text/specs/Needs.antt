@@ -1,0 +1,16 @@
+-- What a command needs of the file.
+use Rattle.book_text.specs.declared.lines.Command.{Command}
+use Rattle.book_text.specs.declared.lines.Command.the-variants as command
+use Rattle.book_text.specs.declared.obeying.Need.{Need}
+use Rattle.book_text.specs.declared.obeying.Need.the-variants.{Nothing, Reading, Writing}
+
+-- "A question reads the file and answers", a change puts other bytes in the place of the file's, and an aside needs no file
+abbrev pub needOf : Command → Need
+needOf (command.Open n w) = Writing
+needOf (command.Grant x y way colour) = Writing
+needOf (command.Remove serial) = Writing
+needOf (command.Show serial) = Reading
+needOf (command.Holder link colour) = Reading
+needOf command.Count = Reading
+needOf command.List = Reading
+needOf (command.Aside a) = Nothing

@@ -1,0 +1,87 @@
+-- The text that answers a command.
+use Prim.Native.Nat.{ℕ, _-_, min}
+use mathlib.Core.List.{List, [], _∷_, _++_}
+use lib.ListN.{length, take}
+use Rattle.ring.specs.declared.ways.Way.{Way}
+use Rattle.ring.specs.declared.refusals.Refusal.{Refusal}
+use Rattle.ring.specs.Refusals.{numberOf}
+use Rattle.texts.specs.Bytes.{bytes}
+use Rattle.texts.specs.Fields.{space, lineFeed}
+use Rattle.texts.specs.Layout.{labelled, wayEnding}
+use Rattle.texts.specs.Grounds.{groundOf}
+use Rattle.book.specs.declared.circuits.Circuit.{Circuit}
+use Rattle.book.specs.declared.books.Book.{Book}
+use Rattle.book.specs.Books.{liveOf}
+use Rattle.book_text.specs.declared.lines.Aside.{Aside}
+use Rattle.book_text.specs.declared.lines.Aside.the-variants as aside
+use Rattle.book_text.specs.declared.answers.Reply.{Reply}
+use Rattle.book_text.specs.declared.answers.Reply.the-variants as reply
+
+-- a word and a number, on a line
+unfoldable pub oneNumber : List ℕ → ℕ → List ℕ
+oneNumber word n = labelled word n ++ (lineFeed ∷ [])
+
+-- two of each
+unfoldable pub twoNumbers : List ℕ → ℕ → List ℕ → ℕ → List ℕ
+twoNumbers first n second m = labelled first n ++ oneNumber second m
+
+-- the ends of a circuit behind a word, then `P` and its colour, or `S` for the seam way
+unfoldable pub circuitText : List ℕ → ℕ → ℕ → Way → ℕ → List ℕ
+circuitText word a b way colour = labelled word a ++ (labelled (bytes " ") b ++ (wayEnding way colour ++ (lineFeed ∷ [])))
+
+-- `order SERIAL A B P COLOUR`
+unfoldable pub orderText : Circuit → List ℕ
+orderText c = labelled (bytes "order ") (c .serial) ++ circuitText (bytes " ") (c .a) (c .b) (c .way) (c .colour)
+
+-- the lines of orders, one behind the other
+abbrev pub linesOf : List Circuit → List ℕ
+linesOf [] = []
+linesOf (c ∷ cs) = orderText c ++ linesOf cs
+
+-- "a line for each live order by rising serial"
+unfoldable pub ordersText : Book → List ℕ
+ordersText b = linesOf (liveOf b)
+
+-- `refused NUMBER` and the ground
+unfoldable pub refusedText : Refusal → List ℕ
+refusedText r = labelled (bytes "refused ") (numberOf r) ++ ((space ∷ []) ++ groundOf r)
+
+-- "what was not understood and the word `help`": the line without its line feed, of a long one the front
+unfoldable pub unreadableText : List ℕ → List ℕ
+unreadableText text =
+    bytes "error not understood: " ++ (take (min 60 (length text - 1)) text ++ bytes " (help lists the commands)\n")
+
+-- "the commands, one line each"
+unfoldable pub helpText : List ℕ
+helpText =
+    bytes "open N W              begins a book for a ring of N nodes and W colours\n"
+    ++ (bytes "grant X Y WAY COLOUR  enters a circuit between nodes X and Y, WAY 0 plain or 1 seam, and gives its order a serial\n"
+    ++ (bytes "remove SERIAL         removes an order\n"
+    ++ (bytes "show SERIAL           the circuit of an order: its ends, P (plain) or S (seam), its colour\n"
+    ++ (bytes "holder LINK COLOUR    the order that has the colour on the link\n"
+    ++ (bytes "count                 how many orders are live, and how many were granted so far\n"
+    ++ (bytes "list                  every live order with its circuit\n"
+    ++ bytes "help                  these lines\n"))))))
+
+-- the answer to a line that asks nothing of the book, as it was heard
+abbrev pub asideText : List ℕ → Aside → List ℕ
+asideText text aside.Help = helpText
+asideText text aside.Nothing = []
+asideText text aside.Unreadable = unreadableText text
+asideText text aside.Unfinished = bytes "error the last line has no line feed and is not obeyed\n"
+asideText text aside.TooLong = bytes "error a line of more than 1,024 bytes is not obeyed\n"
+
+-- the text of each reply, to a line as it was heard, about this book
+abbrev pub replyText : List ℕ → Book → Reply → List ℕ
+replyText text b (reply.Opened n w) = twoNumbers (bytes "opened ") n (bytes " ") w
+replyText text b (reply.Granted serial) = oneNumber (bytes "granted ") serial
+replyText text b (reply.Removed serial) = oneNumber (bytes "removed ") serial
+replyText text b (reply.Circuit x y way colour) = circuitText (bytes "circuit ") x y way colour
+replyText text b reply.Free = bytes "free\n"
+replyText text b (reply.Held serial) = oneNumber (bytes "held ") serial
+replyText text b (reply.Count live grants) = twoNumbers (bytes "live ") live (bytes " grants ") grants
+replyText text b reply.Orders = ordersText b
+replyText text b (reply.Refused r) = refusedText r
+replyText text b reply.BookThere = bytes "error there is a book in the file already\n"
+replyText text b reply.NoBook = bytes "error there is no book yet (open N W begins one)\n"
+replyText text b (reply.Aside a) = asideText text a

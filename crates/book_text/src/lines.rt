@@ -1,0 +1,239 @@
+// What a line says: a command with its numbers.
+use super::spaces::squeeze;
+use ring::buffers::same_bytes;
+use texts::fields::FieldAt;
+use texts::fields::LineAt;
+use texts::fields::field;
+use texts::fields::line;
+ghost use mathlib.Core.Path.{_≡_};
+ghost use Prim.Native.Nat.{_≤_};
+ghost use lib.ListN.{length, take, drop};
+ghost use Rattle.book_text.specs.Lines.{starts, singleOf, pairOf, openOf, grantOf, removeOf, showOf, holderOf};
+ghost use Rattle.book_text.specs.Lines.{commandWithNumbers, commandIn, finished, heard, commandOf};
+
+pub enum Command {
+    Open(u16, u16),
+    Grant(u16, u16, u16, u16),
+    Remove(u16),
+    Show(u16),
+    Holder(u16, u16),
+    Count,
+    List,
+    Aside(Aside),
+}
+
+// A line that asks nothing of the book.
+pub enum Aside {
+    Help,
+    Nothing,
+    Unreadable,
+    Unfinished,
+    TooLong,
+}
+
+// The command of a line, and how many bytes the line has with its spaces squeezed.
+pub struct Heard {
+    pub command: Command,
+    pub length: usize,
+}
+
+// One number, and nothing behind it.
+pub enum Single {
+    Broken,
+    One(u16),
+}
+
+// Two numbers, and nothing behind them.
+pub enum Pair {
+    Broken,
+    Two(u16, u16),
+}
+
+// Whether the text begins with the word.
+fn starts(word: &[u8], text: &[u8]) -> bool
+    ensures { λ r. ⌜ r ≡ starts (now (word .entry)) (now (text .entry)) ⌝ }
+{
+    if text.len() < word.len() {
+        return false;
+    }
+    let mut i: usize = 0;
+    while i < word.len() {
+        if word[i] != text[i] {
+            return false;
+        }
+        i += 1;
+    }
+    true
+}
+
+// The one number from a position on, closed by the line feed that ends the text.
+fn single_at(text: &[u8], at: usize) -> Single
+    requires { ⌜ at ≤ length (now text) ⌝ }
+    ensures { λ r. ⌜ r ≡ singleOf (drop at (now (text .entry))) ⌝ }
+{
+    let found = field(text, at, b'\n');
+    let FieldAt::Found(x, next) = found else {
+        return Single::Broken;
+    };
+    if next < text.len() {
+        return Single::Broken;
+    }
+    Single::One(x)
+}
+
+// The two numbers from a position on.
+fn pair_at(text: &[u8], at: usize) -> Pair
+    requires { ⌜ at ≤ length (now text) ⌝ }
+    ensures { λ r. ⌜ r ≡ pairOf (drop at (now (text .entry))) ⌝ }
+{
+    let found = line(text, at);
+    let LineAt::Ends(x, y, next) = found else {
+        return Pair::Broken;
+    };
+    if next < text.len() {
+        return Pair::Broken;
+    }
+    Pair::Two(x, y)
+}
+
+fn open_at(text: &[u8], at: usize) -> Command
+    requires { ⌜ at ≤ length (now text) ⌝ }
+    ensures { λ r. ⌜ r ≡ openOf (drop at (now (text .entry))) ⌝ }
+{
+    let pair = pair_at(text, at);
+    let Pair::Two(n, w) = pair else {
+        return Command::Aside(Aside::Unreadable);
+    };
+    Command::Open(n, w)
+}
+
+fn grant_at(text: &[u8], at: usize) -> Command
+    requires { ⌜ at ≤ length (now text) ⌝ }
+    ensures { λ r. ⌜ r ≡ grantOf (drop at (now (text .entry))) ⌝ }
+{
+    let first = field(text, at, b' ');
+    let FieldAt::Found(x, behind) = first else {
+        return Command::Aside(Aside::Unreadable);
+    };
+    let second = field(text, behind, b' ');
+    let FieldAt::Found(y, rest) = second else {
+        return Command::Aside(Aside::Unreadable);
+    };
+    let pair = pair_at(text, rest);
+    let Pair::Two(way, colour) = pair else {
+        return Command::Aside(Aside::Unreadable);
+    };
+    Command::Grant(x, y, way, colour)
+}
+
+fn remove_at(text: &[u8], at: usize) -> Command
+    requires { ⌜ at ≤ length (now text) ⌝ }
+    ensures { λ r. ⌜ r ≡ removeOf (drop at (now (text .entry))) ⌝ }
+{
+    let single = single_at(text, at);
+    let Single::One(serial) = single else {
+        return Command::Aside(Aside::Unreadable);
+    };
+    Command::Remove(serial)
+}
+
+fn show_at(text: &[u8], at: usize) -> Command
+    requires { ⌜ at ≤ length (now text) ⌝ }
+    ensures { λ r. ⌜ r ≡ showOf (drop at (now (text .entry))) ⌝ }
+{
+    let single = single_at(text, at);
+    let Single::One(serial) = single else {
+        return Command::Aside(Aside::Unreadable);
+    };
+    Command::Show(serial)
+}
+
+fn holder_at(text: &[u8], at: usize) -> Command
+    requires { ⌜ at ≤ length (now text) ⌝ }
+    ensures { λ r. ⌜ r ≡ holderOf (drop at (now (text .entry))) ⌝ }
+{
+    let pair = pair_at(text, at);
+    let Pair::Two(link, colour) = pair else {
+        return Command::Aside(Aside::Unreadable);
+    };
+    Command::Holder(link, colour)
+}
+
+// A command with numbers behind its word.
+fn numbers_in(text: &[u8]) -> Command
+    ensures { λ r. ⌜ r ≡ commandWithNumbers (now (text .entry)) ⌝ }
+{
+    if starts(b"open ", text) {
+        return open_at(text, 5);
+    }
+    if starts(b"grant ", text) {
+        return grant_at(text, 6);
+    }
+    if starts(b"remove ", text) {
+        return remove_at(text, 7);
+    }
+    if starts(b"show ", text) {
+        return show_at(text, 5);
+    }
+    if starts(b"holder ", text) {
+        return holder_at(text, 7);
+    }
+    Command::Aside(Aside::Unreadable)
+}
+
+// The command of a line whose spaces are squeezed.
+fn command_in(text: &[u8]) -> Command
+    ensures { λ r. ⌜ r ≡ commandIn (now (text .entry)) ⌝ }
+{
+    if same_bytes(text, b"\n") {
+        return Command::Aside(Aside::Nothing);
+    }
+    if same_bytes(text, b"count\n") {
+        return Command::Count;
+    }
+    if same_bytes(text, b"list\n") {
+        return Command::List;
+    }
+    if same_bytes(text, b"help\n") {
+        return Command::Aside(Aside::Help);
+    }
+    numbers_in(text)
+}
+
+// Whether the line feed that ends a line is there.
+fn finished(line: &[u8]) -> bool
+    ensures { λ r. ⌜ r ≡ finished (now (line .entry)) ⌝ }
+{
+    let size = line.len();
+    if size == 0 {
+        return false;
+    }
+    line[size - 1] == b'\n'
+}
+
+// The command of a line. The line goes into the text with its spaces squeezed; one that is too long does not.
+pub fn read(line: &[u8], text: &mut [u8]) -> Heard
+    requires { ⌜ length (now text) ≡ 1024 ⌝ }
+    ensures within { λ r. ⌜ r .length ≤ length (now (text .exit)) ⌝ }
+    ensures heard { λ r. ⌜ take (r .length) (now (text .exit)) ≡ heard (now (line .entry)) ⌝ }
+    ensures command { λ r. ⌜ r .command ≡ commandOf (now (line .entry)) ⌝ }
+{
+    if text.len() < line.len() {
+        return Heard {
+            command: Command::Aside(Aside::TooLong),
+            length: 0,
+        };
+    }
+    let size = squeeze(line, text);
+    if !finished(line) {
+        return Heard {
+            command: Command::Aside(Aside::Unfinished),
+            length: size,
+        };
+    }
+    let said = command_in(&text[..size]);
+    Heard {
+        command: said,
+        length: size,
+    }
+}

@@ -1,0 +1,173 @@
+// The text that answers a command.
+use super::answers::Reply;
+use super::lines::Aside;
+use book::Book;
+use book::Circuit;
+use book::books::live_count;
+use ring::Refusal;
+use ring::Way;
+use ring::refusals::number;
+use texts::grounds::put_ground;
+use texts::words::put_labelled;
+use texts::words::put_way;
+use texts::writing::put;
+use texts::writing::put_byte;
+ghost use mathlib.Core.Path.{_≡_};
+ghost use Prim.Native.Nat.{_+_, _-_, _≤_, min};
+ghost use lib.ListN.{length};
+ghost use Rattle.texts.specs.Internal.Writing.{Wrote};
+ghost use Rattle.book_text.specs.Replies.{oneNumber, twoNumbers, circuitText, orderText, ordersText};
+ghost use Rattle.book_text.specs.Replies.{refusedText, unreadableText, asideText, replyText};
+
+// A word and a number, on a line.
+fn put_one(out: &mut [u8], at: usize, word: &[u8], n: u16) -> usize
+    requires { ⌜ at + (length (now word) + 6) ≤ length (now out) ⌝ }
+    ensures { λ next. ⌜ Wrote (now (out .entry)) at (oneNumber (now (word .entry)) n) (now (out .exit)) next ⌝ }
+{
+    let next = put_labelled(out, at, word, n);
+    put_byte(out, next, b'\n')
+}
+
+// Two of each, on a line.
+fn put_two(out: &mut [u8], first: &[u8], n: u16, second: &[u8], m: u16) -> usize
+    requires { ⌜ length (now first) + 5 + (length (now second) + 6) ≤ length (now out) ⌝ }
+    ensures { λ next. ⌜ Wrote (now (out .entry)) 0 (twoNumbers (now (first .entry)) n (now (second .entry)) m) (now (out .exit)) next ⌝ }
+{
+    let next = put_labelled(out, 0, first, n);
+    put_one(out, next, second, m)
+}
+
+// The ends, way and colour of a circuit behind a word, to the end of the line.
+fn put_circuit(
+    out: &mut [u8],
+    at: usize,
+    word: &[u8],
+    a: u16,
+    b: u16,
+    way: Way,
+    colour: u16,
+) -> usize
+    requires { ⌜ at + (length (now word) + 20) ≤ length (now out) ⌝ }
+    ensures { λ next. ⌜ Wrote (now (out .entry)) at (circuitText (now (word .entry)) a b way colour) (now (out .exit)) next ⌝ }
+{
+    let first = put_labelled(out, at, word, a);
+    let second = put_labelled(out, first, b" ", b);
+    let next = put_way(out, second, way, colour);
+    put_byte(out, next, b'\n')
+}
+
+// The line of an order.
+fn put_order(out: &mut [u8], at: usize, circuit: Circuit) -> usize
+    requires { ⌜ at + 32 ≤ length (now out) ⌝ }
+    ensures { λ next. ⌜ Wrote (now (out .entry)) at (orderText circuit) (now (out .exit)) next ⌝ }
+{
+    let way = circuit.way;
+    let next = put_labelled(out, at, b"order ", circuit.serial);
+    put_circuit(out, next, b" ", circuit.a, circuit.b, way, circuit.colour)
+}
+
+// The lines of the live orders.
+fn put_orders(out: &mut [u8], book: Book) -> usize
+    requires { ⌜ 16384 ≤ length (now out) ⌝ }
+    ensures { λ next. ⌜ Wrote (now (out .entry)) 0 (ordersText book) (now (out .exit)) next ⌝ }
+{
+    let live = live_count(book);
+    let mut next: usize = 0;
+    let mut i: usize = 0;
+    while i < live {
+        let circuit = book.places[i];
+        next = put_order(out, next, circuit);
+        i += 1;
+    }
+    next
+}
+
+// A refusal's number, and its ground.
+fn put_refused(out: &mut [u8], refusal: Refusal) -> usize
+    requires { ⌜ 16384 ≤ length (now out) ⌝ }
+    ensures { λ next. ⌜ Wrote (now (out .entry)) 0 (refusedText refusal) (now (out .exit)) next ⌝ }
+{
+    let first = put_labelled(out, 0, b"refused ", number(refusal));
+    let next = put_byte(out, first, b' ');
+    put_ground(out, next, refusal)
+}
+
+// How much of a line is repeated: not its line feed, and of a long line the front.
+fn echo_length(text: &[u8]) -> usize
+    ensures { λ r. ⌜ r ≡ min 60 (length (now (text .entry)) - 1) ⌝ }
+{
+    let size = text.len();
+    if size == 0 {
+        return 0;
+    }
+    if size < 61 { size - 1 } else { 60 }
+}
+
+// What was not understood.
+fn put_unreadable(out: &mut [u8], text: &[u8]) -> usize
+    requires { ⌜ 16384 ≤ length (now out) ⌝ }
+    ensures { λ next. ⌜ Wrote (now (out .entry)) 0 (unreadableText (now (text .entry))) (now (out .exit)) next ⌝ }
+{
+    let first = put(out, 0, b"error not understood: ");
+    let shown = echo_length(text);
+    let next = put(out, first, &text[..shown]);
+    put(out, next, b" (help lists the commands)\n")
+}
+
+// The answer to a line that asks nothing of the book.
+fn put_aside(out: &mut [u8], aside: Aside, text: &[u8]) -> usize
+    requires { ⌜ 16384 ≤ length (now out) ⌝ }
+    ensures { λ next. ⌜ Wrote (now (out .entry)) 0 (asideText (now (text .entry)) aside) (now (out .exit)) next ⌝ }
+{
+    match aside {
+        Aside::Help => put(
+            out,
+            0,
+            b"open N W              begins a book for a ring of N nodes and W colours\n\
+grant X Y WAY COLOUR  enters a circuit between nodes X and Y, WAY 0 plain or 1 seam, and gives its order a serial\n\
+remove SERIAL         removes an order\n\
+show SERIAL           the circuit of an order: its ends, P (plain) or S (seam), its colour\n\
+holder LINK COLOUR    the order that has the colour on the link\n\
+count                 how many orders are live, and how many were granted so far\n\
+list                  every live order with its circuit\n\
+help                  these lines\n",
+        ),
+        Aside::Nothing => 0,
+        Aside::Unreadable => put_unreadable(out, text),
+        Aside::Unfinished => put(
+            out,
+            0,
+            b"error the last line has no line feed and is not obeyed\n",
+        ),
+        Aside::TooLong => put(
+            out,
+            0,
+            b"error a line of more than 1,024 bytes is not obeyed\n",
+        ),
+    }
+}
+
+// The text of a reply.
+pub fn put_reply(out: &mut [u8], reply: Reply, text: &[u8], book: Book) -> usize
+    requires { ⌜ 16384 ≤ length (now out) ⌝ }
+    ensures { λ next. ⌜ Wrote (now (out .entry)) 0 (replyText (now (text .entry)) book reply) (now (out .exit)) next ⌝ }
+{
+    match reply {
+        Reply::Opened(n, w) => put_two(out, b"opened ", n, b" ", w),
+        Reply::Granted(serial) => put_one(out, 0, b"granted ", serial),
+        Reply::Removed(serial) => put_one(out, 0, b"removed ", serial),
+        Reply::Circuit(a, b, way, colour) => put_circuit(out, 0, b"circuit ", a, b, way, colour),
+        Reply::Free => put(out, 0, b"free\n"),
+        Reply::Held(serial) => put_one(out, 0, b"held ", serial),
+        Reply::Count(live, grants) => put_two(out, b"live ", live, b" grants ", grants),
+        Reply::Orders => put_orders(out, book),
+        Reply::Refused(refusal) => put_refused(out, refusal),
+        Reply::BookThere => put(out, 0, b"error there is a book in the file already\n"),
+        Reply::NoBook => put(
+            out,
+            0,
+            b"error there is no book yet (open N W begins one)\n",
+        ),
+        Reply::Aside(aside) => put_aside(out, aside, text),
+    }
+}

@@ -1,0 +1,23 @@
+-- Cases T7 to T9, computed from the definitions.
+use mathlib.Core.Path.{refl}
+use Rattle.ring.specs.Ways.{uses, someLink}
+use Rattle.ring.specs.Admission.{ringVerdict, endsVerdict}
+use Rattle.book.specs.Circuits.{someCircuit, holds}
+use Rattle.book.specs.Books.{opened}
+use Rattle.book.specs.Grants.{heldIn, heldOnWay, colourHeld, argumentVerdict, roomVerdict, grantVerdict, granted}
+use Rattle.book.specs.Orders.{neverGiven, lookupIn, lookup, missing, shown}
+use Rattle.book.specs.Removals.{removed}
+use Rattle.stored.specs.Blocks.{checkOf}
+use Rattle.cases.specs.Table.{T7, T8, T9}
+
+pub t7 : T7
+unfolding opened ringVerdict endsVerdict granted grantVerdict argumentVerdict roomVerdict colourHeld heldOnWay heldIn someCircuit holds uses
+    someLink removed lookup lookupIn missing neverGiven shown
+t7 = record { answers = refl; colour-held = refl; never-given = refl; gone = refl }
+
+pub t8 : T8
+unfolding checkOf
+t8 = record { check = refl }
+
+pub t9 : T9
+t9 = record { none = refl; one = refl; block = refl; more = refl; all = refl }

@@ -1,0 +1,145 @@
+-- The book in the buffer after a list of calls.
+use Prim.Native.Nat.{ℕ, _+_}
+use mathlib.Core.Path.{_≡_, refl, sym, _∙_, ap, subst}
+use mathlib.Core.Bool.{Bool, true, false, cond}
+use mathlib.Core.List.{List, [], _∷_}
+use native.Mathlib.Omega.{arith}
+use lib.Dec.{eqb}
+use Rattle.ring.specs.declared.refusals.Verdict.{Verdict}
+use Rattle.ring.specs.declared.refusals.Verdict.the-variants as verdict
+use Rattle.ring.specs.Answers.{refuses}
+use Rattle.ring.specs.Admission.{ringVerdict}
+use Rattle.texts.proofs.GroundLaws.{line-of}
+use Rattle.book.specs.declared.books.Book.{Book}
+use Rattle.book.specs.declared.grants.Granted.{Granted}
+use Rattle.book.specs.declared.orders.Lookup.{Lookup}
+use Rattle.book.specs.declared.orders.Lookup.the-variants.{Found, Missing}
+use Rattle.book.specs.declared.removals.Removed.{Removed}
+use Rattle.book.specs.Books.{Valid, bookOf, openUnless, opened, openInNumbers}
+use Rattle.book.specs.Grants.{circuitOf, grantVerdict, grantUnless, granted, grantInNumbers}
+use Rattle.book.specs.Orders.{lookup, missing, shown, showInNumbers}
+use Rattle.book.specs.Removals.{removeFound, removed, removeInNumbers}
+use Rattle.book.specs.Holders.{heldBy, holderInNumbers}
+use Rattle.book.specs.History.{Call, Grant, Remove, Show, Holder, after, run}
+use Rattle.book.proofs.Opening.{opened-valid}
+use Rattle.book.proofs.Validity.{keeps-valid}
+use Rattle.book.proofs.EveryHistory.{every-history}
+use Rattle.stored.specs.declared.loads.Loaded.{Loaded}
+use Rattle.stored.specs.Forms.{storedForm}
+use Rattle.stored.proofs.Promised.{loads-only-forms}
+use Rattle.export.specs.Outcomes.{Outcome}
+use Rattle.export.specs.BookCalls.{front, refusing, storing, changing, grantOn, removeOn, openCall, grantCall, removeCall, showCall}
+use Rattle.export.specs.BookCalls.{holderCall}
+use Rattle.export.specs.Histories.{Kept, keptBy, answerOf, keptAfter, keptRun, withRoom, openedIn, CallHistories}
+use Rattle.export.proofs.Keeping.{Holds, held-valid, changed-held, asked-held, bookAfter, Stores, no-room, whole, stores}
+use Rattle.export.proofs.Keeping.{whole-holds, storing-holds, refusing-holds}
+use Rattle.export.proofs.OutcomeLaws.{on-refusal}
+
+-- a change by its answer and its book
+module _ (kept : Kept) (b : Book) (h : Holds kept b) where
+  grant-on-holds : (x y way colour : ℕ)
+      → let o = grantOn b x y way colour (kept .buffer) in Holds (keptBy kept 1 o) (bookAfter o b (granted b x y way colour .book))
+  unfolding granted
+  grant-on-holds x y way colour = go (grantVerdict b x y way colour) (keeps-valid .granting b (held-valid kept b h) x y way colour)
+    where
+      made : Verdict → Granted
+      made v = grantUnless v b (circuitOf (b .grants + 1) x y way colour)
+
+      go : (v : Verdict) → Valid (made v .book)
+          → let o = changing (grantInNumbers (made v .answer)) (made v .book) (kept .buffer) in
+          Holds (keptBy kept 1 o) (bookAfter o b (made v .book))
+      go verdict.Allowed valid = storing-holds kept b h ((b .grants + 1) ∷ []) 1 (made verdict.Allowed .book) valid refl
+      go (verdict.Refused r) valid = refusing-holds kept b h 1 r _ b refl
+
+  remove-on-holds : (serial : ℕ) → let o = removeOn b serial (kept .buffer) in
+      Holds (keptBy kept 0 o) (bookAfter o b (removed b serial .book))
+  unfolding removed
+  remove-on-holds serial = go (lookup b serial) (keeps-valid .removing b (held-valid kept b h) serial)
+    where
+      made : Lookup → Removed
+      made l = removeFound l (missing b serial) b
+
+      go : (l : Lookup) → Valid (made l .book)
+          → let o = changing (removeInNumbers (made l .answer)) (made l .book) (kept .buffer) in
+          Holds (keptBy kept 0 o) (bookAfter o b (made l .book))
+      go (Found i c) valid = storing-holds kept b h [] 0 (made (Found i c) .book) valid refl
+      go Missing valid = refusing-holds kept b h 0 (missing b serial) _ b refl
+
+  -- the book after one call
+  step : (call : Call) → Holds (keptAfter kept call) (cond (eqb (answerOf kept call .number) 17) b (after b call))
+  unfolding grantCall removeCall
+  step (Grant x y way colour) =
+      subst (λ (o : Outcome). Holds (keptBy kept 1 o) (bookAfter o b (granted b x y way colour .book)))
+      (sym (changed-held kept b h (λ (d : Book). grantOn d x y way colour (kept .buffer))))
+      (grant-on-holds x y way colour)
+  step (Remove serial) =
+      subst (λ (o : Outcome). Holds (keptBy kept 0 o) (bookAfter o b (removed b serial .book)))
+      (sym (changed-held kept b h (λ (d : Book). removeOn d serial (kept .buffer))))
+      (remove-on-holds serial)
+  step (Show serial) = same (eqb (answerOf kept (Show serial) .number) 17)
+    where
+      same : (t : Bool) → Holds kept (cond t b b)
+      same true = h
+      same false = h
+  step (Holder link colour) = same (eqb (answerOf kept (Holder link colour) .number) 17)
+    where
+      same : (t : Bool) → Holds kept (cond t b b)
+      same true = h
+      same false = h
+
+-- the book after a list of calls
+run-one : (b : Book) (calls : List Call) (call : Call) (t : Bool)
+    → cond t (run b calls) (after (run b calls) call) ≡ run b (cond t calls (call ∷ calls))
+run-one b calls call true = refl
+run-one b calls call false = refl
+
+pub run-holds : (kept : Kept) (b : Book) → Holds kept b → (calls : List Call) → Holds (keptRun kept calls) (run b (withRoom kept calls))
+run-holds kept b h [] = h
+run-holds kept b h (call ∷ calls) =
+    subst (Holds (keptRun kept (call ∷ calls))) (run-one b (withRoom kept calls) call (eqb (answerOf (keptRun kept calls) call .number) 17))
+    (step (keptRun kept calls) (run b (withRoom kept calls)) (run-holds kept b h calls) call)
+
+-- an accepted opening
+pub record OpensBook (n w : ℕ) (buffer : List ℕ) : Type 0 where
+  pub allowed : ringVerdict n w ≡ verdict.Allowed
+  pub holds : Holds (openedIn n w buffer) (opened n w .book)
+
+pub opens-book : (n w : ℕ) (buffer : List ℕ) → openCall n w buffer .answer .number ≡ 0 → OpensBook n w buffer
+unfolding openCall opened
+opens-book n w buffer = go (ringVerdict n w) refl
+  where
+    go : (v : Verdict) → ringVerdict n w ≡ v
+        → changing (openInNumbers (openUnless v n w .answer)) (openUnless v n w .book) buffer .answer .number ≡ 0 → OpensBook n w buffer
+    go verdict.Allowed e accepted = record { allowed = e; holds = rw e (first (stores [] (bookOf n w 0 []) buffer) accepted) }
+      where
+        first : Stores [] (bookOf n w 0 []) buffer → storing [] (bookOf n w 0 []) buffer .answer .number ≡ 0
+            → Holds (keptBy (record { buffer = buffer; size = 0 }) 0 (storing [] (bookOf n w 0 []) buffer)) (bookOf n w 0 [])
+        first (no-room s) accepted = absurd (omega (arith, ap (λ (o : Outcome). o .answer .number) s))
+        first (whole s) accepted =
+            subst (λ (o : Outcome). Holds (keptBy (record { buffer = buffer; size = 0 }) 0 o) (bookOf n w 0 [])) (sym s)
+            (whole-holds [] 0 (bookOf n w 0 []) (record { buffer = buffer; size = 0 }) (opened-valid n w e) refl)
+    go (verdict.Refused r) e accepted =
+        let o = on-refusal r (storing (refuses r .values) (bookOf 0 0 0 []) buffer) (refusing (refuses r) buffer) in
+        absurd (omega (arith, line-of r refl .0, ap (λ (o : Outcome). o .answer .number) o))
+
+pub call-histories : CallHistories
+unfolding grantCall removeCall showCall holderCall
+call-histories n w buffer accepted calls =
+    let opens = opens-book n w buffer accepted in
+    let kept = keptRun (openedIn n w buffer) calls in
+    let b = run (opened n w .book) (withRoom (openedIn n w buffer) calls) in
+    let held : Holds kept b = run-holds (openedIn n w buffer) (opened n w .book) (opens .holds) calls in
+    record {
+      stored = record {
+        form =
+            loads-only-forms (front (kept .size) (kept .buffer)) (ap (λ (l : Loaded). l .answer) held) .form
+            ∙ ap (λ (l : Loaded). storedForm (l .book)) held;
+        loads = held;
+        after = every-history n w (opens .allowed) (withRoom (openedIn n w buffer) calls);
+      };
+      grants = λ x y way colour.
+          ap (λ (o : Outcome). o .answer) (changed-held kept b held (λ (d : Book). grantOn d x y way colour (kept .buffer)));
+      removals = λ serial. ap (λ (o : Outcome). o .answer) (changed-held kept b held (λ (d : Book). removeOn d serial (kept .buffer)));
+      shows = λ serial. asked-held kept b held (λ (d : Book). showInNumbers (shown d serial));
+      holders = λ link colour. asked-held kept b held (λ (d : Book). holderInNumbers (heldBy d link colour));
+    }

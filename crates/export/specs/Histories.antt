@@ -1,0 +1,90 @@
+-- What the calls on a book promise together: the book in the buffer goes through the book's own histories.
+use Prim.Native.Nat.{ℕ, _<_}
+use mathlib.Core.Path.{_≡_}
+use mathlib.Core.Bool.{cond}
+use mathlib.Core.List.{List, [], _∷_}
+use lib.Dec.{eqb}
+use lib.ListN.{length, getD}
+use Rattle.ring.specs.Answers.{InNumbers}
+use Rattle.ring.specs.declared.refusals.Refusal.the-variants.{StoredLength}
+use Rattle.book.specs.declared.books.Book.{Book}
+use Rattle.book.specs.Books.{opened}
+use Rattle.book.specs.Orders.{shown, showInNumbers}
+use Rattle.book.specs.Holders.{heldBy, holderInNumbers}
+use Rattle.book.specs.History.{Call, Grant, Remove, Show, Holder, run}
+use Rattle.stored.specs.declared.loads.LoadAnswer.the-variants as load
+use Rattle.stored.specs.Loading.{loaded}
+use Rattle.stored.specs.Histories.{StoredAfter}
+use Rattle.export.specs.Outcomes.{Outcome, onSuccess}
+use Rattle.export.specs.BookCalls.{front, grantOn, removeOn, openCall, grantCall, removeCall, showCall, holderCall}
+
+-- a change whose result is not 0 leaves the buffer as it is
+pub record RefusedLeaves : Type 0 where
+  pub opening : (n w : ℕ) (buffer : List ℕ) → (openCall n w buffer .answer .number ≡ 0 → ⊥) → openCall n w buffer .buffer ≡ buffer
+  pub granting : (buffer : List ℕ) (size x y way colour : ℕ) → (grantCall buffer size x y way colour .answer .number ≡ 0 → ⊥)
+      → grantCall buffer size x y way colour .buffer ≡ buffer
+  pub removing : (buffer : List ℕ) (size serial : ℕ) → (removeCall buffer size serial .answer .number ≡ 0 → ⊥)
+      → removeCall buffer size serial .buffer ≡ buffer
+
+-- a length above the buffer's own is refused by 18
+abbrev pub LengthPast : Type 0
+LengthPast = (buffer : List ℕ) (size : ℕ) → length buffer < size → loaded (front size buffer) .answer ≡ load.Refused StoredLength
+
+-- a buffer, and the length of the book in it as the latest change gave it
+pub record Kept : Type 0 where
+  pub buffer : List ℕ
+  pub size : ℕ
+
+-- what a change leaves there; it gives the length as this one of its values
+abbrev pub keptBy : Kept → ℕ → Outcome → Kept
+keptBy kept entry outcome =
+    record { buffer = outcome .buffer; size = onSuccess (outcome .answer) (getD (outcome .answer .values) entry 0) (kept .size) }
+
+-- the answer of a call that is given that buffer and length
+abbrev pub answerOf : Kept → Call → InNumbers
+answerOf kept (Grant x y way colour) = grantCall (kept .buffer) (kept .size) x y way colour .answer
+answerOf kept (Remove serial) = removeCall (kept .buffer) (kept .size) serial .answer
+answerOf kept (Show serial) = showCall (front (kept .size) (kept .buffer)) serial
+answerOf kept (Holder link colour) = holderCall (front (kept .size) (kept .buffer)) link colour
+
+-- what the call leaves there
+abbrev pub keptAfter : Kept → Call → Kept
+keptAfter kept (Grant x y way colour) = keptBy kept 1 (grantCall (kept .buffer) (kept .size) x y way colour)
+keptAfter kept (Remove serial) = keptBy kept 0 (removeCall (kept .buffer) (kept .size) serial)
+keptAfter kept (Show serial) = kept
+keptAfter kept (Holder link colour) = kept
+
+-- what a list of calls leaves there, the latest of them first
+abbrev pub keptRun : Kept → List Call → Kept
+keptRun kept [] = kept
+keptRun kept (call ∷ calls) = keptAfter (keptRun kept calls) call
+
+-- the calls of the list that were not refused by 17
+abbrev pub withRoom : Kept → List Call → List Call
+withRoom kept [] = []
+withRoom kept (call ∷ calls) =
+    cond (eqb (answerOf (keptRun kept calls) call .number) 17) (withRoom kept calls) (call ∷ withRoom kept calls)
+
+-- what an opening leaves in a buffer
+abbrev pub openedIn : ℕ → ℕ → List ℕ → Kept
+openedIn n w buffer = keptBy (record { buffer = buffer; size = 0 }) 0 (openCall n w buffer)
+
+-- the buffer holds the book after these calls from an opening, and each call that is made next answers as that book does
+pub record KeptAfter (n w : ℕ) (calls : List Call) (kept : Kept) : Type 0 where
+  pub stored : StoredAfter n w calls (front (kept .size) (kept .buffer))
+  pub grants : (x y way colour : ℕ)
+      → answerOf kept (Grant x y way colour) ≡ grantOn (run (opened n w .book) calls) x y way colour (kept .buffer) .answer
+  pub removals : (serial : ℕ) → answerOf kept (Remove serial) ≡ removeOn (run (opened n w .book) calls) serial (kept .buffer) .answer
+  pub shows : (serial : ℕ) → answerOf kept (Show serial) ≡ showInNumbers (shown (run (opened n w .book) calls) serial)
+  pub holders : (link colour : ℕ) → answerOf kept (Holder link colour) ≡ holderInNumbers (heldBy (run (opened n w .book) calls) link colour)
+
+-- it is so after every list of calls from an accepted opening, those that 17 refused left out
+abbrev pub CallHistories : Type 0
+CallHistories = (n w : ℕ) (buffer : List ℕ) → openCall n w buffer .answer .number ≡ 0 → (calls : List Call)
+    → KeptAfter n w (withRoom (openedIn n w buffer) calls) (keptRun (openedIn n w buffer) calls)
+
+-- a removal needs no more room than the book had: 17 does not come
+abbrev pub RemovalFits : Type 0
+RemovalFits = (b : Book) (buffer : List ℕ) (size : ℕ) → loaded (front size buffer) ≡ record { answer = load.Loaded; book = b }
+    → (serial : ℕ)
+    → removeCall buffer size serial .answer .number ≡ 17 → ⊥

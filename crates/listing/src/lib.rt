@@ -1,7 +1,0 @@
-// The planning program's text: reading and printing.
-pub mod answers;
-pub mod layout;
-pub mod reading;
-pub mod writing;
-
-pub use answers::answer;

@@ -1,0 +1,56 @@
+use borrow.Author.Needs.{needs}
+use Rattle.ringbook.proofs.changes.take.Statement.{statement}
+use Rattle.ringbook.proofs.changes.take.Tie as tie
+
+abbrev Inv-loop : tie.InvT-loop
+Inv-loop beside tries₀ tries = Unit
+
+abbrev μ-loop : tie.MeasureT-loop
+μ-loop beside tries₀ tries = tries
+
+loop-holds : tie.Need-loop-holds Inv-loop μ-loop
+loop-holds c = tt
+
+pause-requires : tie.Need-pause-requires Inv-loop μ-loop
+pause-requires c κs = search needs
+
+create-requires : tie.Need-create-requires Inv-loop μ-loop
+create-requires c κs = search needs
+
+returns : tie.Need-returns Inv-loop μ-loop
+returns c = search needs
+
+errno-requires : tie.Need-errno-requires Inv-loop μ-loop
+errno-requires c κs = search needs
+
+returns-2 : tie.Need-returns-2 Inv-loop μ-loop
+returns-2 c = search needs
+
+sub-tries : tie.Need-sub-tries Inv-loop μ-loop
+sub-tries c = search needs
+
+loop-less : tie.Need-loop-less Inv-loop μ-loop
+loop-less c = search needs
+
+loop-again : tie.Need-loop-again Inv-loop μ-loop
+loop-again c = tt
+
+returns-3 : tie.Need-returns-3 Inv-loop μ-loop
+returns-3 c = search needs
+
+pub take-spec : {M : Type 1} → statement M
+take-spec =
+    tie.close
+    (tie.spec
+    Inv-loop
+    μ-loop
+    loop-holds
+    pause-requires
+    create-requires
+    returns
+    errno-requires
+    returns-2
+    sub-tries
+    loop-less
+    loop-again
+    returns-3)

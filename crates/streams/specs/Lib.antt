@@ -1,0 +1,2 @@
+-- No contract can say what is read or written.
+pub mod Streams

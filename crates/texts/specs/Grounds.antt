@@ -1,0 +1,38 @@
+-- Each ground in words: one table from refusal to text.
+use Prim.Native.Nat.{ℕ}
+use mathlib.Core.List.{List, _++_}
+use Rattle.ring.specs.declared.refusals.Refusal.{Refusal}
+use Rattle.ring.specs.declared.refusals.Refusal.the-variants.{NodeCount, ColourCount, RequestCount, RequestEnd, RequestEndsEqual}
+use Rattle.ring.specs.declared.refusals.Refusal.the-variants.{TableShort, FateNumber, Conflict, CircuitEnd, CircuitEndsEqual, WayNumber}
+use Rattle.ring.specs.declared.refusals.Refusal.the-variants.{ColourNumber, ColourHeld, BookFull, SerialsUsedUp, SerialNeverGiven}
+use Rattle.ring.specs.declared.refusals.Refusal.the-variants.{SerialRemoved, LinkNumber, BufferShort, StoredLength, BlockCheck, StoredForm}
+use Rattle.ring.specs.declared.refusals.Refusal.the-variants.{TextForm}
+use Rattle.texts.specs.Bytes.{bytes}
+
+-- the ground's words, to the end of the line
+abbrev pub groundOf : Refusal → List ℕ
+groundOf NodeCount = bytes "n not 3 to 256\n"
+groundOf ColourCount = bytes "w not 1 to 128\n"
+groundOf RequestCount = bytes "more than 512 requests, or an odd number of ends\n"
+groundOf (RequestEnd i) = bytes "an end is n or more\n"
+groundOf (RequestEndsEqual i) = bytes "equal ends\n"
+groundOf TableShort = bytes "the plan table has fewer than m entries\n"
+groundOf (FateNumber i) = bytes "a number above 2w\n"
+groundOf (Conflict i j) = bytes "two requests of one colour share a link\n"
+groundOf CircuitEnd = bytes "an end is n or more\n"
+groundOf CircuitEndsEqual = bytes "equal ends\n"
+groundOf WayNumber = bytes "way not 0 (plain) or 1 (seam)\n"
+groundOf ColourNumber = bytes "colour w or more\n"
+groundOf ColourHeld = bytes "that colour is held on a link of the way\n"
+groundOf BookFull = bytes "512 circuits are live, and the book has no other place\n"
+groundOf SerialsUsedUp = bytes "serial 65,535 has been given\n"
+groundOf SerialNeverGiven = bytes "serial 0 or never given\n"
+groundOf SerialRemoved = bytes "removed\n"
+groundOf LinkNumber = bytes "link n or more\n"
+groundOf BufferShort = bytes "buffer shorter than the length\n"
+groundOf StoredLength = bytes "length 0, not a multiple of 512, or above 5,120\n"
+groundOf BlockCheck = bytes "a wrong block number or check\n"
+groundOf StoredForm =
+    bytes "a record with fate number 0, or anything else that breaks the stored form, "
+    ++ bytes "a limit, the rising serials from 1 up to the grants so far, or feasibility\n"
+groundOf TextForm = bytes "more than 8,192 bytes, or a text not of the stated form\n"
