@@ -69,10 +69,6 @@ live-cond true f i c e = let z : _≡_ {A = ℕ} 0 1 = cc in absurd (omega arith
 live-cond false f i c e = (refl, e)
 
 module _ (b : Book) (s i : ℕ) (c : Circuit) (e : lookup b s ≡ Found i c) where
-  pub found-given : neverGiven (b .grants) s ≡ false
-  unfolding lookup
-  found-given = live-cond (neverGiven (b .grants) s) (lookupIn 0 (liveOf b) s) i c e .0
-
   pub found-live : FoundIn (liveOf b) 0 s i c
   unfolding lookup
   found-live = found-in (liveOf b) 0 s i c (live-cond (neverGiven (b .grants) s) (lookupIn 0 (liveOf b) s) i c e .1)

@@ -1,19 +1,15 @@
 -- A list and its table, printed, read back as themselves.
-use Prim.Native.Nat.{ℕ, _*_, _≤_, _<_}
+use Prim.Native.Nat.{ℕ, _*_, _<_}
 use mathlib.Core.Path.{_≡_, refl, sym, _∙_, ap}
 use mathlib.Core.List.{List, [], _∷_, _++_, append-assoc, append-nil}
 use native.Mathlib.Omega.{arith}
 use lib.ListN.{length}
-use borrow.Author.Tests.{le-ltb}
 use Rattle.texts.specs.Decimal.{decimal}
 use Rattle.texts.specs.Fields.{lineFeed}
 use Rattle.plan_text.specs.Reading.{all}
 use Rattle.texts.proofs.DecimalRead.{decimal-read}
 use Rattle.plan_text.proofs.ReadBack.{Ends, headingText, heading-read, linesText, lines-read}
-use Rattle.checker.specs.Check.{checkAnswer}
-use Rattle.check_text.specs.Reading.{numbersFrom, formOf, readingOf, readable}
-use Rattle.check_text.specs.Verdict.{verdictLine}
-use Rattle.check_text.specs.Promise.{lineFor}
+use Rattle.check_text.specs.Reading.{numbersFrom, formOf, readable}
 
 -- fate numbers that a text can hold: each of 16 bits
 pub data Numbers : List ℕ → Type 0 where
@@ -48,8 +44,3 @@ module _ (n w : ℕ) (ends table : List ℕ) (nodes : n < 65536) (colours : w < 
         lines-read ends [] (length table) (tableText table) listed two,
         table-read [] numbered,
       ) refl
-
-  -- so its line is that of the check of the table
-  pub text-line : length (textOf n w ends table) ≤ 16384 → lineFor (textOf n w ends table) ≡ verdictLine (checkAnswer n w ends table)
-  unfolding lineFor readingOf
-  text-line short = rw (le-ltb 16384 (length (textOf n w ends table)) short, text-read) refl

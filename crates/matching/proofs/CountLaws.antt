@@ -36,6 +36,3 @@ module _ (mates : List ℕ) (m i : ℕ) (h : m ≤ length mates) where
       let past : length (take m mates) ≤ i = rw length-take-le l in
       let none : length (pairsFrom i (drop i (take m mates))) ≡ 0 = rw (drop-of-length-le (take m mates) past) in
       omega arith
-
-  pub count-few : (k : ℕ) → k + length (pairsFrom i (drop i (take m mates))) ≡ length (pairsOf m mates) → k ≤ length (pairsOf m mates)
-  count-few k inv = omega arith

@@ -14,11 +14,11 @@ pub record ByLower (P : List Pair) : Type 0 where
   pub lower : (k : ℕ) → k < length P → pair P k .first < pair P k .second
   pub rising : (j k : ℕ) → j < k → k < length P → pair P j .first < pair P k .first
 
--- the fates of a pair in colour c: "the lower-numbered request goes plain if no end of the other is strictly between its ends,
--- otherwise by the seam; the other takes its one way that is disjoint from that"
+-- the fate of a pair's first request in colour c: it goes by the way of "the lower-numbered request"
 abbrev pub firstFate : List Request → Pair → ℕ → Fate
 firstFate R p c = Served (firstWay (request R (p .first)) (request R (p .second))) c
 
+-- that of its second: "the other takes its one way that is disjoint from that"
 abbrev pub secondFate : ℕ → List Request → Pair → ℕ → Fate
 secondFate n R p c = Served (secondWay n (request R (p .first)) (request R (p .second))) c
 

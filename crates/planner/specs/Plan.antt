@@ -17,14 +17,16 @@ use Rattle.planner.specs.declared.answers.PlanAnswer.{PlanAnswer}
 use Rattle.planner.specs.declared.answers.PlanAnswer.the-variants as answer
 use Rattle.planner.specs.PairPart.{pairPart}
 
--- "the part that serves more; on a tie, the chain part"
+-- the pair part, if it serves more
 abbrev pub better : Bool → Part
 better true = part.Pair
 better false = part.Chain
 
+-- "the part that serves more; on a tie, the chain part"
 unfoldable pub partUsed : ℕ → ℕ → List Request → List Pair → Part
 partUsed n w R P = better (ltb (served (chainPart n w R)) (served (pairPart n w R P)))
 
+-- the plan of a part
 abbrev pub planBy : Part → ℕ → ℕ → List Request → List Pair → List Fate
 planBy part.Pair n w R P = pairPart n w R P
 planBy part.Chain n w R P = chainPart n w R

@@ -83,9 +83,6 @@ pub same-pair-compatible : (r s : Request) → r .a ≡ s .a → r .b ≡ s .b �
 unfolding shareEnd
 same-pair-compatible r s e f = share-end-compatible r s (cc (eq-eqb (r .a) (s .a) e))
 
-pub compatible-self : (r : Request) → compatible r r ≡ true
-compatible-self r = same-pair-compatible r r refl refl
-
 -- the ends alternate: the second request starts between the ends of the first, and ends behind them
 pub record Alternate (r s : Request) : Type 0 where
   pub starts-behind : r .a < s .a

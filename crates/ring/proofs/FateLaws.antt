@@ -45,13 +45,6 @@ unfolding fateNumber
 served-number Plain c = omega arith
 served-number Seam c = omega arith
 
--- 0 is the number of Blocked, and of no other fate
-pub number-zero : (f : Fate) → fateNumber f ≡ 0 → f ≡ Blocked
-unfolding fateNumber
-number-zero Blocked e = refl
-number-zero (Served Plain c) e = absurd (omega arith)
-number-zero (Served Seam c) e = absurd (omega arith)
-
 pub number-blocked : (f : Fate) → f ≡ Blocked → fateNumber f ≡ 0
 unfolding fateNumber
 number-blocked f e = ap fateNumber e

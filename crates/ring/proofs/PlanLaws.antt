@@ -10,7 +10,7 @@ use Rattle.ring.specs.declared.fates.Fate.{Fate}
 use Rattle.ring.specs.declared.fates.Fate.the-variants.{Blocked, Served}
 use Rattle.ring.specs.Plans.{fate, served}
 use Rattle.ring.proofs.Cases.{impossible}
-use Rattle.ring.proofs.Counting.{sum, bit, count, count-le, sum-ext}
+use Rattle.ring.proofs.Counting.{sum, bit, count, sum-ext}
 
 -- a fate is not blocked
 abbrev pub served? : Fate → Bool
@@ -86,17 +86,3 @@ served-count (f ∷ F) = omega (arith, served-cons f F, served-count F, sum-firs
 -- fate by fate: as a count of a given test, equal and at most
 pub served-test : (F : List Fate) (p : ℕ → Bool) → ((i : ℕ) → i < length F → served? (fate F i) ≡ p i) → served F ≡ count p (length F)
 served-test F p h = served-count F ∙ sum-ext (λ i. bit (served? (fate F i))) (λ i. bit (p i)) (length F) (λ i l. ap bit (h i l))
-
-pub served-same : (F G : List Fate) → length F ≡ length G → ((i : ℕ) → i < length F → served? (fate F i) ≡ served? (fate G i))
-    → served F ≡ served G
-served-same F G e h = served-test F (λ i. served? (fate G i)) h ∙ (ap (count (λ i. served? (fate G i))) e ∙ sym (served-count G))
-
-pub served-more : (F G : List Fate) → length F ≡ length G → ((i : ℕ) → i < length F → served? (fate F i) ≡ true → served? (fate G i) ≡ true)
-    → served F ≤ served G
-served-more F G e h = omega (
-  arith,
-  served-count F,
-  served-count G,
-  ap (count (λ i. served? (fate G i))) e,
-  count-le (λ i. served? (fate F i)) (λ i. served? (fate G i)) (length F) h,
-)

@@ -104,12 +104,6 @@ module _ (n : ℕ) (r s : Request) (order-r : r .a < r .b) (node-r : r .b < n) (
     | no f ↦ absurd (some-way-shares (firstWay r s) f e)
   ]
 
-  pub routing-other : (v : Way) → (v ≡ secondWay n r s → ⊥) → shareLink n (firstWay r s) r v s ≡ true
-  routing-other v h = elim (is (shareLink n (firstWay r s) r v s)) [
-    | yes e ↦ e
-    | no e ↦ absurd (h (routing-unique v e))
-  ]
-
 -- "its one way that is disjoint from that"
 pub one-disjoint-way : RoutingPromise
 one-disjoint-way n r s o h p k c = record { disjoint = routing-disjoint n r s o h p k c; only = routing-unique n r s o h p k }

@@ -18,6 +18,7 @@ fateNumber Blocked = 0
 fateNumber (Served Plain c) = 2 * c + 1
 fateNumber (Served Seam c) = 2 * c + 2
 
+-- one fate if the test holds, else the other
 abbrev pub pickFate : Bool → Fate → Fate → Fate
 pickFate true f g = f
 pickFate false f g = g

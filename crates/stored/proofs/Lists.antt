@@ -8,10 +8,6 @@ use lib.ListN.{length, drop, set, replicate, length-append, length-replicate, re
 use lib.Seq.{take-at, drop-append-add, sets-eq}
 use Rattle.ring.specs.Buffers.{written}
 
--- zeros
-pub zeros-next : (i : ℕ) → _≡_ {A = List ℕ} (replicate i 0 ++ (0 ∷ [])) (replicate (i + 1) 0)
-zeros-next i = replicate-append-replicate i 1 0
-
 pub drop-zeros : (m k : ℕ) → _≡_ {A = List ℕ} (drop k (replicate m 0)) (replicate (m - k) 0)
 drop-zeros m zero =
     let e : m ≡ m - 0 = omega arith in
@@ -57,7 +53,3 @@ pad-zeros l m h =
     ap (λ (j : ℕ). l ++ replicate j 0) e
     ∙ ap (λ (xs : List ℕ). l ++ xs) (sym (replicate-append-replicate m (512 - length (l ++ replicate m 0)) 0))
     ∙ sym (append-assoc l (replicate m 0) (replicate (512 - length (l ++ replicate m 0)) 0))
-
-pub pad-length : (l : List ℕ) → length l ≤ 512 → length (pad l) ≡ 512
-unfolding pad
-pad-length l h = simp (length-append, length-replicate) (omega arith)

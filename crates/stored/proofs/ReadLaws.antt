@@ -84,9 +84,6 @@ book-append n w g cs c k e h =
     }) q
 
 module _ (b : Book) (block : List ℕ) where
-  pub extended-none : b ≡ extended b [] → b ≡ extended b (recordsIn block 0)
-  extended-none e = e
-
   extended-length : (i : ℕ) → length (liveOf b ++ recordsIn block i) ≡ length (liveOf b) + i
   extended-length i = length-append (liveOf b) (recordsIn block i) ∙ ap (λ (j : ℕ). length (liveOf b) + j) (records-in-length block i)
 

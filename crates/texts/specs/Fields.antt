@@ -4,10 +4,11 @@ use mathlib.Core.Bool.{Bool, cond, _&&_}
 use mathlib.Core.List.{List, [], _∷_}
 use lib.Dec.{eqb, leb, ltb}
 
--- the bytes that close a number: "one space between, every line closed by a line feed"
+-- the byte that closes a number with another behind it: "one space between"
 abbrev pub space : ℕ
 space = 32
 
+-- and the last one: "every line closed by a line feed"
 abbrev pub lineFeed : ℕ
 lineFeed = 10
 

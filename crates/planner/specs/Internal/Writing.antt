@@ -31,10 +31,11 @@ withPair R i j c table =
 abbrev pub takes : ℕ → ℕ → ℕ → ℕ → Bool
 takes w i j c = ltb i j && ltb c w
 
--- the table and the next colour after request i with its mate j
+-- the table after request i with its mate j
 abbrev pub tableAfter : ℕ → List Request → ℕ → ℕ → ℕ → List ℕ → List ℕ
 tableAfter w R i j c table = cond (takes w i j c) (withPair R i j c table) table
 
+-- the next colour after it
 abbrev pub colourAfter : ℕ → ℕ → ℕ → ℕ → ℕ
 colourAfter w i j c = cond (takes w i j c) (c + 1) c
 
