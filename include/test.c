@@ -1,6 +1,6 @@
 /*
- * Calls every function of tarziloen.h, on cases T1 and T7 of the rules and on
- * the refusals of a book in a buffer; prints each answer that is another one.
+ * Calls every function of tarziloen.h, on cases T1, T5 and T7 of the rules and
+ * on the refusals of a book in a buffer; prints each answer that is another one.
  *
  * From the top folder, after `rt staticlib export`:
  *
@@ -42,6 +42,22 @@ static void plan_and_check(void)
     expect("conflict", tarziloen_check(8, 1, ends, 8, table, 4, values, 4), 8);
     expect("first", values[0], 0);
     expect("second", values[1], 3);
+}
+
+static void spare_colour(void)
+{
+    const uint16_t ends[6] = {0, 1, 0, 1, 0, 1};
+    uint16_t table[3] = {9, 9, 9};
+    uint16_t values[4] = {9, 9, 9, 9};
+
+    expect("plan", tarziloen_plan(3, 2, ends, 6, table, 3, values, 4), 0);
+    expect("chain", values[0], 2);
+    expect("match", values[1], 1);
+    expect("pair", values[2], 3);
+    expect("part", values[3], 1);
+    expect("numbers 1, 2 and 3", table[0] + table[1] + table[2], 6);
+    expect("check", tarziloen_check(3, 2, ends, 6, table, 3, values, 4), 0);
+    expect("served", values[0], 3);
 }
 
 static void answer(void)
@@ -116,6 +132,7 @@ static void refusals(void)
 int main(void)
 {
     plan_and_check();
+    spare_colour();
     answer();
     book();
     refusals();

@@ -27,9 +27,27 @@ fn plans_whole_and_piece_by_piece() {
         "plan 4 1 2\nchain 1 match 1 pair 2 used pair\n0 P 0\n1 S 0\n"
     );
     assert_eq!(
+        output(b"4 1 2\n0 2\n1 3\n", 64),
+        "plan 4 1 2\nchain 1 match 0 pair 1 used chain\n0 P 0\n1 B\n"
+    );
+    assert_eq!(
         output(b"3 1 0\n", 64),
         "plan 3 1 0\nchain 0 match 0 pair 0 used chain\n"
     );
+}
+
+/// Case T5: which two requests are the pair is open, and the third has the spare colour.
+#[test]
+fn a_spare_colour_goes_to_the_request_that_is_left() {
+    let text = output(b"3 2 3\n0 1\n0 1\n0 1\n", 64);
+    let counts = "plan 3 2 3\nchain 2 match 1 pair 3 used pair\n";
+    let plan = text.strip_prefix(counts).expect("line 2 of T5");
+    let right = [
+        "0 P 0\n1 S 0\n2 P 1\n",
+        "0 P 0\n1 P 1\n2 S 0\n",
+        "0 P 1\n1 P 0\n2 S 0\n",
+    ];
+    assert!(right.contains(&plan), "{plan}");
 }
 
 #[test]

@@ -2,27 +2,36 @@
 //! every matching of small lists.
 mod reference;
 
-use reference::matchings::{largest_matching, match_count};
+use reference::matchings::{largest_matching, maximum_pairs};
+use reference::pairs::{pair_part, pairs_shown};
 use reference::{best_plan, chain_count, check, requests, Random};
 use ring_planner::{plan, Part};
 
+/// What a plan was seen to serve: all its requests, and those in spare colours.
+struct Served {
+    requests: usize,
+    spare: usize,
+}
+
 /// Plans a list and compares all that is said of the plan with the second planner.
-fn compare(n: u16, w: u16, ends: &[u16]) -> u16 {
+fn compare(n: u16, w: u16, ends: &[u16]) -> Served {
     let m = ends.len() / 2;
     let list = requests(ends);
     let mut table = vec![9999u16; m + 3];
     let got = plan(n, w, ends, &mut table)
         .unwrap_or_else(|r| panic!("refused {} on n {n} w {w} {ends:?}", r.number));
-    let chain = chain_count(w as usize, &list);
-    let matched = match_count(&list);
-    let paired = 2 * matched.min(w as usize);
+    let (nodes, colours) = (n as usize, w as usize);
+    let chain = chain_count(colours, &list);
+    let pairs = maximum_pairs(&list);
+    let second = pair_part(nodes, colours, &list, &pairs);
+    let paired = check(nodes, colours, &list, &second).expect("a feasible pair part") as usize;
     assert_eq!(
         (
             got.chain as usize,
             got.matched as usize,
             got.paired as usize
         ),
-        (chain, matched, paired),
+        (chain, pairs.len(), paired),
         "n {n} w {w} {ends:?}"
     );
     assert_eq!(
@@ -33,10 +42,20 @@ fn compare(n: u16, w: u16, ends: &[u16]) -> u16 {
             Part::Chain
         }
     );
+    let mut spare = 0;
+    if got.used == Part::Pair {
+        let shown = pairs_shown(pairs.len().min(colours), &table[..m]);
+        spare = paired - 2 * shown.len();
+        assert_eq!(
+            &table[..m],
+            pair_part(nodes, colours, &list, &shown),
+            "the table follows from its pairs: n {n} w {w} {ends:?}"
+        );
+    }
     assert_eq!(&table[m..], &[9999, 9999, 9999], "entries past m stay");
-    let served = check(n as usize, w as usize, &list, &table).expect("the plan is feasible");
-    assert_eq!(served as usize, chain.max(paired));
-    served
+    let requests = check(nodes, colours, &list, &table).expect("the plan is feasible") as usize;
+    assert_eq!(requests, chain.max(paired));
+    Served { requests, spare }
 }
 
 fn random_list(random: &mut Random, n: u64, m: u64) -> Vec<u16> {
@@ -85,38 +104,42 @@ fn antipodal(m: u64, jitter: u64, random: &mut Random) -> Vec<u16> {
 #[test]
 fn counts_agree_on_many_lists() {
     let mut random = Random::new(1);
-    let mut lists = 0;
+    let (mut lists, mut filled) = (0, 0);
+    let mut count = |n: u16, w: u16, ends: &[u16]| {
+        lists += 1;
+        filled += usize::from(compare(n, w, ends).spare > 0);
+    };
     for round in 0..6000 {
         let n = 3 + random.below(if round % 3 == 0 { 254 } else { 12 });
         let m = random.below(if round % 50 == 0 { 160 } else { 24 });
         let w = 1 + random.below(if round % 2 == 0 { 4 } else { 128 });
-        let ends = random_list(&mut random, n, m);
-        compare(n as u16, w as u16, &ends);
-        lists += 1;
+        count(n as u16, w as u16, &random_list(&mut random, n, m));
     }
     for size in [1, 3, 5, 7] {
         for k in [1, 2, 3, 8, 17, 40, 73, 128] {
             if k * size <= 512 {
                 let (n, ends) = bundles(k, size, &mut random);
-                compare(n, 128, &ends);
-                lists += 1;
+                let pairs = k * (size / 2);
+                for w in [1, pairs, pairs + 1, pairs + k / 2, pairs + k, 128] {
+                    count(n, w.clamp(1, 128) as u16, &ends);
+                }
             }
         }
     }
     for jitter in [1, 2, 4, 8] {
         for m in [64, 200, 512] {
             let ends = antipodal(m, jitter, &mut random);
-            compare(256, 128, &ends);
-            lists += 1;
+            for w in [1, 16, 64, 96, 128] {
+                count(256, w, &ends);
+            }
         }
     }
     for m in [511, 512] {
         let ends = random_list(&mut random, 256, m);
-        compare(256, 128, &ends);
-        compare(256, 3, &ends);
-        lists += 2;
+        count(256, 128, &ends);
+        count(256, 3, &ends);
     }
-    println!("{lists} lists planned alike");
+    println!("{lists} lists planned alike, {filled} of them with spare colours given out");
 }
 
 #[test]
@@ -129,7 +152,7 @@ fn bounds_on_small_rings_by_trying_all() {
         let w = 1 + random.below(2);
         let ends = random_list(&mut random, n, m);
         let list = requests(&ends);
-        let served = compare(n as u16, w as u16, &ends) as usize;
+        let served = compare(n as u16, w as u16, &ends).requests;
         let (n, w) = (n as usize, w as usize);
         let best = best_plan(n, w, &list, None);
         assert!(
@@ -151,7 +174,11 @@ fn match_counts_on_small_lists_by_trying_all() {
         let ends = random_list(&mut random, n, m);
         compare(n as u16, 3, &ends);
         let list = requests(&ends);
-        assert_eq!(match_count(&list), largest_matching(&list), "{ends:?}");
+        assert_eq!(
+            maximum_pairs(&list).len(),
+            largest_matching(&list),
+            "{ends:?}"
+        );
     }
 }
 

@@ -2,10 +2,11 @@
 use Prim.Native.Nat.{ℕ, zero, suc, _*_, _≤_, _<_, min}
 use mathlib.Core.Path.{_≡_, refl, sym, ap, _∙_}
 use mathlib.Core.Bool.{true, xor}
-use mathlib.Core.List.{List, [], _∷_, map}
+use mathlib.Core.List.{List, [], _∷_, _++_, map}
+use mathlib.Core.Logic.{inl, inr}
 use native.Mathlib.Omega.{arith}
 use lib.Dec.{ltb}
-use lib.ListN.{length, replicate}
+use lib.ListN.{length, drop, replicate}
 use Rattle.ring.specs.declared.fates.Fate.the-variants.{Blocked, Served}
 use Rattle.ring.specs.declared.ways.Way.the-variants.{Plain, Seam}
 use Rattle.ring.specs.Requests.{request, requestsOf}
@@ -13,7 +14,7 @@ use Rattle.ring.specs.Ways.{uses, someLink, shareLink}
 use Rattle.ring.specs.Fates.{fateOf, fateNumber}
 use Rattle.ring.specs.Plans.{served, Feasible}
 use Rattle.ring.specs.Chords.{inside, shareEnd, crosses, compatible}
-use Rattle.ring.specs.Matchings.{Pair, IsMatching, IsMaximum}
+use Rattle.ring.specs.Matchings.{Pair, pair, IsMaximum}
 use Rattle.ring.specs.Routing.{firstWay, secondWay}
 use Rattle.ring.specs.Admission.{ringVerdict, endsVerdict, requestVerdicts, countVerdict, listVerdict, callVerdict}
 use Rattle.ring.proofs.AdmissionLaws.{ring-allowed}
@@ -22,7 +23,7 @@ use Rattle.chain.specs.Order.{order}
 use Rattle.chain.specs.Rule.{pick}
 use Rattle.chain.specs.ChainPart.{latestAfter, chainFrom, chainPart}
 use Rattle.planner.specs.declared.answers.Part.the-variants as part
-use Rattle.planner.specs.PairPart.{pairPart, ByLower}
+use Rattle.planner.specs.PairPart.{ByLower, pairFates, pairPart, pairCount}
 use Rattle.planner.specs.Plan.{better, planOf}
 use Rattle.planner.specs.Ceiling.{MatchBound}
 use Rattle.planner.proofs.PlanLaws.{plan-pair}
@@ -30,8 +31,8 @@ use Rattle.planner.proofs.MateLaws.{matching-size}
 use Rattle.checker.specs.Check.{firstGround, numberVerdict, numberVerdicts, conflicting, pairVerdict, laterVerdict, pairVerdicts}
 use Rattle.checker.specs.Check.{tableAnswer, checkAnswer}
 use Rattle.checker.proofs.DecisionLaws.{checker-decides}
-use Rattle.cases.specs.Table.{Plans, line2, endsT1, planT1, threeServed, endsT4}
-use Rattle.cases.proofs.Sizes.{matching-if, Computed, size, paired, counts-are, chain-is-plan, case-plans}
+use Rattle.cases.specs.Table.{PlansTo, Plans, line2, endsT1, planT1, threeServed, endsT4, endsT5, TableT5}
+use Rattle.cases.proofs.Sizes.{matching-if, Computed, size, paired, counts-are, chain-is-plan, case-plans, writes}
 
 abbrev pairing : ℕ → ℕ → Pair
 pairing i j = record { first = i; second = j }
@@ -49,8 +50,10 @@ computed-t1 = record {
 pub plans-t1 : Plans 8 1 endsT1 (line2 2 2 2 part.Chain) planT1
 unfolding served ringVerdict countVerdict listVerdict requestVerdicts endsVerdict
 plans-t1 =
-    case-plans refl refl refl refl
-    (λ P m l. record { counted = counts-are _ _ _ _ _ computed-t1 P m; planned = chain-is-plan _ _ _ _ _ computed-t1 P m (omega arith) })
+    case-plans refl refl refl (λ P m l. record {
+      counted = counts-are _ _ _ _ _ computed-t1 P m;
+      written = writes _ (chain-is-plan _ _ _ _ _ computed-t1 P m (omega arith)) refl;
+    })
 
 pub feasible-t1 : Feasible 8 1 (requestsOf endsT1) threeServed
 unfolding served checkAnswer tableAnswer numberVerdicts numberVerdict pairVerdicts laterVerdict pairVerdict conflicting firstGround
@@ -78,8 +81,10 @@ computed-t2 = record {
 pub plans-t2 : Plans 7 2 endsT2 (line2 4 2 4 part.Chain) (Served Plain 0 ∷ Served Plain 1 ∷ Served Plain 1 ∷ Served Plain 0 ∷ [])
 unfolding served ringVerdict countVerdict listVerdict requestVerdicts endsVerdict
 plans-t2 =
-    case-plans refl refl refl refl
-    (λ P m l. record { counted = counts-are _ _ _ _ _ computed-t2 P m; planned = chain-is-plan _ _ _ _ _ computed-t2 P m (omega arith) })
+    case-plans refl refl refl (λ P m l. record {
+      counted = counts-are _ _ _ _ _ computed-t2 P m;
+      written = writes _ (chain-is-plan _ _ _ _ _ computed-t2 P m (omega arith)) refl;
+    })
 
 abbrev endsT3 : List ℕ
 endsT3 = 0 ∷ 2 ∷ 2 ∷ 0 ∷ []
@@ -94,20 +99,22 @@ computed-t3 = record {
       λ Q m. omega (arith, matching-size (requestsOf endsT3) Q m);
 }
 
+-- a matching of one pair
+single : (P : List Pair) → length P ≡ 1 → P ≡ pairing (pair P 0 .first) (pair P 0 .second) ∷ []
+single [] e = absurd (omega arith)
+single (p ∷ []) e = refl
+single (p ∷ q ∷ P) e = absurd (omega arith)
+
 only-pair : (P : List Pair) → IsMaximum (requestsOf endsT3) P → ByLower P → P ≡ pairing 0 1 ∷ []
-only-pair P maximum lower = go P (size _ _ _ _ _ computed-t3 P maximum) (maximum .matching) lower
-  where
-    go : (P : List Pair) → length P ≡ 1 → IsMatching (requestsOf endsT3) P → ByLower P → P ≡ pairing 0 1 ∷ []
-    go [] e matching lower = absurd (omega arith)
-    go (p ∷ []) e matching lower =
-        let numbers = matching .numbers 0 (omega arith) in
-        let first : p .first ≡ 0 = omega (arith, lower .lower 0 (omega arith)) in
-        let second : p .second ≡ 1 = omega (arith, lower .lower 0 (omega arith)) in
-        rw (sym first, sym second)
-    go (p ∷ q ∷ P) e matching lower = absurd (omega arith)
+only-pair P maximum lower =
+    let one = size _ _ _ _ _ computed-t3 P maximum in
+    let below = maximum .matching .numbers 0 (omega arith) in
+    let first : pair P 0 .first ≡ 0 = omega (arith, lower .lower 0 (omega arith)) in
+    let second : pair P 0 .second ≡ 1 = omega (arith, lower .lower 0 (omega arith)) in
+    single P one ∙ rw (first, second)
 
 fates-t3 : pairPart 4 1 (requestsOf endsT3) (pairing 0 1 ∷ []) ≡ Served Plain 0 ∷ Served Seam 0 ∷ []
-unfolding pairPart firstWay secondWay inside shareLink someLink uses
+unfolding pairPart pairFates firstWay secondWay inside shareLink someLink uses
 fates-t3 = refl
 
 plan-t3 : (P : List Pair) → IsMaximum (requestsOf endsT3) P → ByLower P
@@ -118,8 +125,8 @@ plan-t3 P m l = plan-pair 4 1 _ P (rw (computed-t3 .chain, paired _ _ _ _ _ comp
 pub plans-t3 : Plans 4 1 endsT3 (line2 1 1 2 part.Pair) (Served Plain 0 ∷ Served Seam 0 ∷ [])
 unfolding served ringVerdict countVerdict listVerdict requestVerdicts endsVerdict
 plans-t3 =
-    case-plans refl refl refl refl
-    (λ P m l. record { counted = counts-are _ _ _ _ _ computed-t3 P m; planned = plan-t3 P m l })
+    case-plans refl refl refl
+    (λ P m l. record { counted = counts-are _ _ _ _ _ computed-t3 P m; written = writes _ (plan-t3 P m l) refl })
 
 pub numbers-t3 : map fateNumber (Served Plain 0 ∷ Served Seam 0 ∷ []) ≡ 1 ∷ 2 ∷ []
 unfolding fateNumber
@@ -147,14 +154,13 @@ computed-t4 : Computed 4 1 (requestsOf endsT4) (Served Plain 0 ∷ Blocked ∷ [
 unfolding chainPart order pick
 computed-t4 = record { chain = refl; matching = matching-if _ _ refl refl; bound = no-pair }
 
-pub plans-t4 : Plans 4 1 endsT4 (line2 1 0 0 part.Chain) (Served Plain 0 ∷ Blocked ∷ [])
+pub plans-t4 : Plans 4 1 endsT4 (line2 1 0 1 part.Chain) (Served Plain 0 ∷ Blocked ∷ [])
 unfolding served ringVerdict countVerdict listVerdict requestVerdicts endsVerdict
 plans-t4 =
-    case-plans refl refl refl refl
-    (λ P m l. record { counted = counts-are _ _ _ _ _ computed-t4 P m; planned = chain-is-plan _ _ _ _ _ computed-t4 P m (omega arith) })
-
-abbrev endsT5 : List ℕ
-endsT5 = 0 ∷ 1 ∷ 0 ∷ 1 ∷ 0 ∷ 1 ∷ []
+    case-plans refl refl refl (λ P m l. record {
+      counted = counts-are _ _ _ _ _ computed-t4 P m;
+      written = writes _ (chain-is-plan _ _ _ _ _ computed-t4 P m (omega arith)) refl;
+    })
 
 -- T5: three requests have one pair at most
 computed-t5 : Computed 3 2 (requestsOf endsT5) (Served Plain 0 ∷ Served Plain 1 ∷ Blocked ∷ []) (pairing 0 1 ∷ [])
@@ -166,11 +172,34 @@ computed-t5 = record {
       λ Q m. omega (arith, matching-size (requestsOf endsT5) Q m);
 }
 
-pub plans-t5 : Plans 3 2 endsT5 (line2 2 1 2 part.Chain) (Served Plain 0 ∷ Served Plain 1 ∷ Blocked ∷ [])
+-- the numbers, by the pair that is found
+numbers-t5 : (i j : ℕ) → i < j → j < 3 → (before : List ℕ)
+    → TableT5 before (map fateNumber (pairPart 3 2 (requestsOf endsT5) (pairing i j ∷ [])) ++ drop 3 before)
+unfolding pairPart pairFates firstWay secondWay inside shareLink someLink uses fateNumber
+numbers-t5 i zero h k before = absurd (omega arith)
+numbers-t5 zero (suc zero) h k before = inl refl
+numbers-t5 (suc i) (suc zero) h k before = absurd (omega arith)
+numbers-t5 zero (suc (suc zero)) h k before = inr (inl refl)
+numbers-t5 (suc zero) (suc (suc zero)) h k before = inr (inr refl)
+numbers-t5 (suc (suc i)) (suc (suc zero)) h k before = absurd (omega arith)
+numbers-t5 i (suc (suc (suc j))) h k before = absurd (omega arith)
+
+written-t5 : (P : List Pair) → IsMaximum (requestsOf endsT5) P → ByLower P → (before : List ℕ)
+    → TableT5 before (map fateNumber (planOf 3 2 (requestsOf endsT5) P) ++ drop 3 before)
+unfolding served
+written-t5 P maximum lower before =
+    let one = size _ _ _ _ _ computed-t5 P maximum in
+    let below = maximum .matching .numbers 0 (omega arith) in
+    let found = numbers-t5 (pair P 0 .first) (pair P 0 .second) (lower .lower 0 (omega arith)) (below .1) before in
+    let more : served (chainPart 3 2 (requestsOf endsT5)) < served (pairPart 3 2 (requestsOf endsT5) P) =
+    rw (computed-t5 .chain, paired _ _ _ _ _ computed-t5 P maximum) (omega arith) in
+    rw (plan-pair 3 2 (requestsOf endsT5) P more) (rw (← single P one) at found)
+
+pub plans-t5 : PlansTo 3 2 endsT5 (line2 2 1 3 part.Pair) TableT5
 unfolding served ringVerdict countVerdict listVerdict requestVerdicts endsVerdict
 plans-t5 =
-    case-plans refl refl refl refl
-    (λ P m l. record { counted = counts-are _ _ _ _ _ computed-t5 P m; planned = chain-is-plan _ _ _ _ _ computed-t5 P m (omega arith) })
+    case-plans refl refl refl
+    (λ P m l. record { counted = counts-are _ _ _ _ _ computed-t5 P m; written = written-t5 P m l })
 
 -- T6: whatever is taken, no request gets a fate
 no-fates : (numbers latest : List ℕ) → chainFrom [] numbers latest [] ≡ []
@@ -189,9 +218,9 @@ computed-t6 n w = record {
 pub plans-t6 : (n w : ℕ) → 3 ≤ n → n ≤ 256 → 1 ≤ w → w ≤ 128 → Plans n w [] (line2 0 0 0 part.Chain) []
 unfolding served countVerdict listVerdict requestVerdicts
 plans-t6 n w from to one most =
-    let none : 2 * min 0 w ≡ 0 = omega arith in
-    case-plans (ring-allowed n w (record { nodes-from = from; nodes-to = to; colours-from = one; colours-to = most })) refl refl refl
+    let none : pairCount 0 w (min 0 w) ≡ 0 = omega arith in
+    case-plans (ring-allowed n w (record { nodes-from = from; nodes-to = to; colours-from = one; colours-to = most })) refl refl
     (λ P m l. record {
       counted = counts-are _ _ _ _ _ (computed-t6 n w) P m ∙ ap (λ k. line2 0 0 k (better (ltb 0 k))) none;
-      planned = chain-is-plan _ _ _ _ _ (computed-t6 n w) P m (omega arith);
+      written = writes _ (chain-is-plan _ _ _ _ _ (computed-t6 n w) P m (omega arith)) refl;
     })

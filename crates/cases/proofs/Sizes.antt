@@ -1,11 +1,11 @@
 -- The size of a maximum matching, from one matching of that size and a bound for all; and the counts that follow.
-use Prim.Native.Nat.{ℕ, zero, suc, _*_, _/_, _≤_, _<_, min}
+use Prim.Native.Nat.{ℕ, zero, suc, _/_, _≤_, _<_, min}
 use mathlib.Core.Path.{_≡_, refl, sym, ap, _∙_}
 use mathlib.Core.Bool.{Bool, true, false, not, _&&_, _||_}
-use mathlib.Core.List.{List, [], _∷_}
+use mathlib.Core.List.{List, [], _∷_, _++_, map}
 use native.Mathlib.Omega.{arith}
 use lib.Dec.{eqb, ltb}
-use lib.ListN.{length, getD}
+use lib.ListN.{length, getD, drop}
 use borrow.Author.Tests.{ltb-true, le-ltb}
 use Rattle.ring.specs.declared.requests.Request.{Request}
 use Rattle.ring.specs.Requests.{request, requestsOf}
@@ -14,6 +14,7 @@ use Rattle.ring.specs.declared.refusals.Verdict.the-variants.{Allowed}
 use Rattle.ring.specs.Admission.{ringVerdict, listVerdict, callVerdict}
 use Rattle.ring.proofs.AdmissionLaws.{allowed-both, allowed-refuse}
 use Rattle.ring.specs.declared.fates.Fate.{Fate}
+use Rattle.ring.specs.Fates.{fateNumber}
 use Rattle.ring.specs.Plans.{served}
 use Rattle.ring.specs.Chords.{compatible}
 use Rattle.ring.specs.Matchings.{Pair, pair, requestNumbers, NoTwice, IsMatching, IsMaximum}
@@ -22,12 +23,12 @@ use Rattle.ring.proofs.Counting.{has}
 use Rattle.chain.specs.ChainPart.{chainPart}
 use Rattle.planner.specs.declared.answers.Summary.{Summary}
 use Rattle.planner.specs.declared.answers.PlanAnswer.the-variants.{Planned}
-use Rattle.planner.specs.PairPart.{pairPart, ByLower}
+use Rattle.planner.specs.PairPart.{ByLower, pairPart, pairCount}
 use Rattle.planner.specs.Plan.{better, partUsed, planOf, summary}
 use Rattle.planner.specs.Ceiling.{MatchBound}
-use Rattle.planner.proofs.PairLaws.{pair-part-serves}
+use Rattle.planner.proofs.FillLaws.{pair-part-serves}
 use Rattle.planner.proofs.PlanLaws.{plan-chain}
-use Rattle.cases.specs.Table.{line2, Plans}
+use Rattle.cases.specs.Table.{line2, PlansTo}
 
 -- no number stands twice, as a test
 abbrev pub distinct : List ℕ → Bool
@@ -96,32 +97,40 @@ module _ (n w : ℕ) (R : List Request) (fates : List Fate) (pairs : List Pair) 
   pub size : length P ≡ length pairs
   size = omega (arith, computed .bound P (maximum .matching), maximum .largest pairs (computed .matching))
 
-  pub paired : served (pairPart n w R P) ≡ 2 * min (length pairs) w
-  paired = pair-part-serves n w R P (maximum .matching) ∙ ap (λ k. 2 * min k w) size
+  -- the pair count
+  abbrev pub pairs-serve : ℕ
+  pairs-serve = pairCount (length R) w (min (length pairs) w)
+
+  pub paired : served (pairPart n w R P) ≡ pairs-serve
+  paired = pair-part-serves n w R P (maximum .matching) ∙ ap (λ k. pairCount (length R) w (min k w)) size
 
   -- the counts of line 2
-  pub counts-are : summary n w R P
-      ≡ line2 (served fates) (length pairs) (2 * min (length pairs) w) (better (ltb (served fates) (2 * min (length pairs) w)))
+  pub counts-are : summary n w R P ≡ line2 (served fates) (length pairs) pairs-serve (better (ltb (served fates) pairs-serve))
   unfolding summary partUsed
   counts-are = rw (computed .chain, size, paired)
 
   -- the plan, where the chain part serves enough
-  pub chain-is-plan : 2 * min (length pairs) w ≤ served fates → planOf n w R P ≡ fates
+  pub chain-is-plan : pairs-serve ≤ served fates → planOf n w R P ≡ fates
   chain-is-plan h = plan-chain n w R P (rw (computed .chain, paired) h) ∙ computed .chain
 
--- the counts and the fates of a list are those, whichever maximum matching is found
-pub record Determined (n w : ℕ) (R : List Request) (counts : Summary) (fates : List Fate) (P : List Pair) : Type 0 where
+-- the counts of a list, and what is written for it, by one maximum matching
+pub record Determined (n w : ℕ) (R : List Request) (counts : Summary) (Right : List ℕ → List ℕ → Type 0) (P : List Pair) : Type 0 where
   pub counted : summary n w R P ≡ counts
-  pub planned : planOf n w R P ≡ fates
+  pub written : (before : List ℕ) → Right before (map fateNumber (planOf n w R P) ++ drop (length R) before)
 
--- from them to what a call of plan gives and writes
-pub case-plans : {n w : ℕ} {ends : List ℕ} {counts : Summary} {fates : List Fate} → ringVerdict n w ≡ Allowed → listVerdict n ends ≡ Allowed
-    → length (requestsOf ends) ≡ length fates → length ends / 2 ≡ length fates
-    → ((P : List Pair) → IsMaximum (requestsOf ends) P → ByLower P → Determined n w (requestsOf ends) counts fates P)
-    → Plans n w ends counts fates
+-- from them, for every maximum matching, to what a call of plan gives and writes
+pub case-plans : {n w : ℕ} {ends : List ℕ} {counts : Summary} {Right : List ℕ → List ℕ → Type 0} → ringVerdict n w ≡ Allowed
+    → listVerdict n ends ≡ Allowed → length ends / 2 ≡ length (requestsOf ends)
+    → ((P : List Pair) → IsMaximum (requestsOf ends) P → ByLower P → Determined n w (requestsOf ends) counts Right P)
+    → PlansTo n w ends counts Right
 unfolding callVerdict
-case-plans {n} {w} {ends} {counts} {fates} ring list same half each before after result room promise =
+case-plans {n} {w} {ends} {counts} {Right} ring list half each before after result room promise =
     let enough : ltb (length before) (length ends / 2) ≡ false = le-ltb (length before) (length ends / 2) (omega arith) in
     let made = promise .planned (allowed-both _ _ ring (allowed-both _ _ list (allowed-refuse _ TableShort enough))) in
     let determined = each (made .pairs) (made .maximum) (made .byLower) in
-    (made .counts ∙ ap Planned (determined .counted), rw (determined .planned, same) at (made .table))
+    (made .counts ∙ ap Planned (determined .counted), rw (made .table) (determined .written before))
+
+-- where the fates are the same by every maximum matching
+pub writes : {F fates : List Fate} (m : ℕ) → F ≡ fates → m ≡ length fates → (before : List ℕ)
+    → map fateNumber F ++ drop m before ≡ map fateNumber fates ++ drop (length fates) before
+writes m e f before = rw (e, f)

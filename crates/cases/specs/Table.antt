@@ -2,6 +2,7 @@
 use Prim.Native.Nat.{ℕ, _*_, _≤_}
 use mathlib.Core.Path.{_≡_}
 use mathlib.Core.List.{List, [], _∷_, _++_, map}
+use mathlib.Core.Logic.{_⊎_}
 use lib.ListN.{length, drop, replicate}
 use Rattle.ring.specs.declared.fates.Fate.{Fate}
 use Rattle.ring.specs.declared.fates.Fate.the-variants.{Blocked, Served}
@@ -35,12 +36,15 @@ use Rattle.check_text.specs.Promise.{lineFor}
 abbrev pub line2 : ℕ → ℕ → ℕ → Part → Summary
 line2 chain match pair used = record { chain = chain; matched = match; paired = pair; used = used }
 
--- whatever meets the promise of plan on a list, with a table long enough, gives these counts and writes these fates, and nothing behind
--- them
+-- whatever meets the promise of plan on a list, with a table long enough, gives these counts, and Right holds of the table before and after
+abbrev pub PlansTo : ℕ → ℕ → List ℕ → Summary → (List ℕ → List ℕ → Type 0) → Type 0
+PlansTo n w ends counts Right =
+    (before after : List ℕ) (result : PlanAnswer) → length (requestsOf ends) ≤ length before → PlanPromise n w ends before after result
+    → (result ≡ Planned counts) × Right before after
+
+-- and writes these fates, and nothing behind them
 abbrev pub Plans : ℕ → ℕ → List ℕ → Summary → List Fate → Type 0
-Plans n w ends counts fates =
-    (before after : List ℕ) (result : PlanAnswer) → length fates ≤ length before → PlanPromise n w ends before after result
-    → (result ≡ Planned counts) × (after ≡ map fateNumber fates ++ drop (length fates) before)
+Plans n w ends counts fates = PlansTo n w ends counts (λ before after. after ≡ map fateNumber fates ++ drop (length fates) before)
 
 -- whatever meets the promise of the planning program's text function on an input, with a buffer long enough, writes this output
 abbrev pub Prints : List ℕ → List ℕ → Type 0
@@ -83,13 +87,22 @@ pub record T3 : Type 0 where
 abbrev pub endsT4 : List ℕ
 endsT4 = 0 ∷ 2 ∷ 1 ∷ 3 ∷ []
 
--- T4 n 4, w 1: "chain 1, match 0"
+-- T4 n 4, w 1: "chain 1, match 0, pair 1, chain used"
 pub record T4 : Type 0 where
-  pub plans : Plans 4 1 endsT4 (line2 1 0 0 part.Chain) (Served Plain 0 ∷ Blocked ∷ [])
+  pub plans : Plans 4 1 endsT4 (line2 1 0 1 part.Chain) (Served Plain 0 ∷ Blocked ∷ [])
 
--- T5 n 3, w 2: "{0,1} three times: chain 2, match 1, pair 2, chain used"
+-- the list of T5
+abbrev pub endsT5 : List ℕ
+endsT5 = 0 ∷ 1 ∷ 0 ∷ 1 ∷ 0 ∷ 1 ∷ []
+
+-- "By the matching that is found, the numbers are 1, 2, 3 or 1, 3, 2 or 3, 1, 2", and nothing is written behind them
+abbrev pub TableT5 : List ℕ → List ℕ → Type 0
+TableT5 before after =
+    (after ≡ 1 ∷ 2 ∷ 3 ∷ drop 3 before) ⊎ ((after ≡ 1 ∷ 3 ∷ 2 ∷ drop 3 before) ⊎ (after ≡ 3 ∷ 1 ∷ 2 ∷ drop 3 before))
+
+-- T5 n 3, w 2: "{0,1} three times: chain 2, match 1, pair 3, pair used"
 pub record T5 : Type 0 where
-  pub plans : Plans 3 2 (0 ∷ 1 ∷ 0 ∷ 1 ∷ 0 ∷ 1 ∷ []) (line2 2 1 2 part.Chain) (Served Plain 0 ∷ Served Plain 1 ∷ Blocked ∷ [])
+  pub plans : PlansTo 3 2 endsT5 (line2 2 1 3 part.Pair) TableT5
 
 -- T6 "no requests: all counts 0, chain used", on any ring and with any number of colours within the limits
 pub record T6 : Type 0 where

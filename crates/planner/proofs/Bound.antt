@@ -1,5 +1,5 @@
 -- What any feasible plan serves: no more than the chain count and the smaller of the match count and w together.
-use Prim.Native.Nat.{ℕ, zero, suc, _+_, _*_, _-_, _≤_, _<_, min, max}
+use Prim.Native.Nat.{ℕ, zero, suc, _+_, _*_, _-_, _≤_, _<_, min}
 use mathlib.Core.Path.{_≡_, refl, sym, ap, _∙_}
 use mathlib.Core.Bool.{Bool, true, false, not, cond, _&&_, true≢false}
 use mathlib.Core.List.{List, [], _∷_}
@@ -276,7 +276,7 @@ ceiling n w R valid chain size chained matched F feasible = omega (
   few-couples n w R valid F feasible,
 )
 
--- two thirds follow for the better of the chain count and twice the smaller of the match count and w
-pub two-thirds : (n w : ℕ) (R : List Request) (chain size : ℕ) → Ceiling n w R (chain + min size w)
-    → TwoThirds n w R (max chain (2 * min size w))
-two-thirds n w R chain size top F feasible = omega (arith, top F feasible)
+-- two thirds follow for whatever serves the chain count at least, and twice the smaller of the match count and w
+pub two-thirds : (n w : ℕ) (R : List Request) (chain size ours : ℕ) → Ceiling n w R (chain + min size w) → chain ≤ ours
+    → 2 * min size w ≤ ours → TwoThirds n w R ours
+two-thirds n w R chain size ours top chained paired F feasible = omega (arith, top F feasible)

@@ -1,10 +1,10 @@
 -- The choice between the two parts, and the promise of plan.
-use Prim.Native.Nat.{ℕ, _*_, _≤_, _<_, min}
+use Prim.Native.Nat.{ℕ, _+_, _*_, _-_, _/_, _≤_, _<_, min}
 use mathlib.Core.Path.{_≡_, refl, sym, ap, _∙_}
 use mathlib.Core.List.{List, _++_, map}
 use native.Mathlib.Omega.{arith}
-use lib.ListN.{length, drop, length-map}
-use lib.Seq.{drop-at, length-front, length-take-le}
+use lib.ListN.{length, take, drop, length-map}
+use lib.Seq.{take-at, drop-at, length-front, length-take-le}
 use borrow.Author.Tests.{lt-ltb, le-ltb}
 use Rattle.ring.specs.declared.rings.Ring.{Ring}
 use Rattle.ring.specs.declared.rings.RingAnswer.the-variants as ring
@@ -27,14 +27,22 @@ use Rattle.matching.specs.Maximum.{pairsOf, MaximumMatching}
 use Rattle.planner.specs.declared.answers.Part.the-variants as part
 use Rattle.planner.specs.declared.answers.Summary.{Summary}
 use Rattle.planner.specs.declared.answers.PlanAnswer.the-variants as answer
-use Rattle.planner.specs.PairPart.{ByLower, pairPart}
+use Rattle.planner.specs.PairPart.{ByLower, pairFates, colouredPairs, pairPart, pairCount}
 use Rattle.planner.specs.Plan.{partUsed, summary}
 use Rattle.planner.specs.Promise.{PlanPromise}
 use Rattle.planner.specs.Internal.Writing.{pairTable}
+use Rattle.planner.specs.Internal.Filling.{filledTable}
 use Rattle.planner.specs.Internal.Choosing.{Choosable, Chosen}
 use Rattle.planner.proofs.MateLaws.{matching-size}
-use Rattle.planner.proofs.PairLaws.{pair-part-serves}
+use Rattle.planner.proofs.PairLaws.{pair-fates-length}
+use Rattle.planner.proofs.FillLaws.{pair-part-serves}
+use Rattle.planner.proofs.SpareLaws.{pair-part-filled}
 use Rattle.planner.proofs.PlanLaws.{plan-pair, plan-chain, demand}
+
+-- the pair count, as it is computed
+pub counted : (m w pairs requests filled : ℕ) → requests ≡ m → filled ≡ min (w - pairs) (requests - 2 * pairs)
+    → 2 * pairs + filled ≡ pairCount m w pairs
+counted m w pairs requests filled e f = cc
 
 module _ (n w : ℕ) (ends mates table : List ℕ) (chain size : ℕ) (choosable : Choosable n w ends mates table chain size) where
   abbrev R : List Request
@@ -43,37 +51,56 @@ module _ (n w : ℕ) (ends mates table : List ℕ) (chain size : ℕ) (choosable
   abbrev P : List Pair
   P = pairsOf (length R) mates
 
-  -- so few pairs that twice their number fits
-  pub few-pairs : size ≤ 256
-  few-pairs = omega (arith, choosable .matched, matching-size R P (choosable .writable .matching), choosable .writable .valid .few)
+  half : length ends / 2 ≡ length R
+  half = omega (arith, choosable .writable .even)
 
-  pair-count : (matched paired : ℕ) → matched ≡ size → paired ≡ 2 * min matched w → paired ≡ served (pairPart n w R P)
-  pair-count matched paired e f = omega (arith, choosable .matched, pair-part-serves n w R P (choosable .writable .matching))
+  -- there are two requests for each pair, and so few that every count fits
+  pub few-pairs : (2 * size ≤ length ends / 2) × (length ends / 2 ≤ 512)
+  few-pairs =
+      let same = half in (
+        omega (arith, choosable .matched, matching-size R P (choosable .writable .matching)),
+        omega (arith, choosable .writable .valid .few),
+      )
 
-  -- the pair part serves more, and is written
-  pub pair-chosen : (matched paired : ℕ) (after : List ℕ) → matched ≡ size → paired ≡ 2 * min matched w → chain < paired
-      → after ≡ pairTable n w R mates table
-      → Chosen n w R P table after (record { chain = chain; matched = matched; paired = paired; used = part.Pair })
+  pair-count : (pairs paired : ℕ) → pairs ≡ min size w → paired ≡ pairCount (length ends / 2) w pairs → paired ≡ served (pairPart n w R P)
+  pair-count pairs paired e f =
+      let same : pairs ≡ colouredPairs w P = omega (arith, choosable .matched) in
+      f ∙ (rw (half, same) refl ∙ sym (pair-part-serves n w R P (choosable .writable .matching)))
+
+  -- the pair part serves more: the pairs are written, then the spare colours filled
+  pub pair-chosen : (pairs paired : ℕ) (middle filled : List ℕ) → pairs ≡ min size w → paired ≡ pairCount (length ends / 2) w pairs
+      → chain < paired → middle ≡ pairTable n w R mates table → filled ≡ filledTable w (w - pairs) (take (length ends / 2) middle)
+      → Chosen n w R P table (filled ++ drop (length ends / 2) middle)
+      (record { chain = chain; matched = size; paired = paired; used = part.Pair })
   unfolding summary partUsed
-  pair-chosen matched paired after e f h g =
+  pair-chosen pairs paired middle filled e f h g k =
       let c = choosable .chain in
-      let p = pair-count matched paired e f in
-      let s : matched ≡ length P = omega (arith, choosable .matched) in
+      let p = pair-count pairs paired e f in
+      let s = choosable .matched in
       let more : served (chainPart n w R) < served (pairPart n w R P) = omega arith in
+      let spare : w - pairs ≡ w - colouredPairs w P = omega arith in
+      let numbers = map fateNumber (pairFates n w R P) in
+      let all : length numbers ≡ length ends / 2 = length-map (pairFates n w R P) fateNumber ∙ (pair-fates-length n w R P ∙ sym half) in
       record {
-        table = rw (plan-pair n w R P more) g;
+        table = rw (
+          plan-pair n w R P more,
+          k,
+          g,
+          take-at numbers (drop (length R) table) (length ends / 2) all,
+          drop-at numbers (drop (length R) table) (length ends / 2) all,
+        ) (rw (pair-part-filled n w R P (w - pairs) spare) refl);
         counts =
             rw (lt-ltb (served (chainPart n w R)) (served (pairPart n w R P)) more) (cc);
       }
 
   -- it does not, and the chain part stays
-  pub chain-chosen : (matched paired : ℕ) → matched ≡ size → paired ≡ 2 * min matched w → paired ≤ chain
-      → Chosen n w R P table table (record { chain = chain; matched = matched; paired = paired; used = part.Chain })
+  pub chain-chosen : (pairs paired : ℕ) → pairs ≡ min size w → paired ≡ pairCount (length ends / 2) w pairs → paired ≤ chain
+      → Chosen n w R P table table (record { chain = chain; matched = size; paired = paired; used = part.Chain })
   unfolding summary partUsed
-  chain-chosen matched paired e f h =
+  chain-chosen pairs paired e f h =
       let c = choosable .chain in
-      let p = pair-count matched paired e f in
-      let s : matched ≡ length P = omega (arith, choosable .matched) in
+      let p = pair-count pairs paired e f in
+      let s = choosable .matched in
       let less : served (pairPart n w R P) ≤ served (chainPart n w R) = omega arith in
       record {
         table = rw (plan-chain n w R P less) (choosable .table);

@@ -1,7 +1,9 @@
 pub mod Lists
 pub mod Bound
 pub mod PairLaws
+pub mod FillLaws
 pub mod PlanLaws
 pub mod WriteLaws
+pub mod SpareLaws
 pub mod MateLaws
 pub mod ChoiceLaws

@@ -1,5 +1,5 @@
--- The pair part of a matching is feasible, and serves two requests for each pair that gets a colour.
-use Prim.Native.Nat.{ℕ, zero, suc, _+_, _*_, _<_, min}
+-- The fates of the pairs are a feasible plan, in the first colours, and serve two requests for each pair that gets a colour.
+use Prim.Native.Nat.{ℕ, zero, suc, _+_, _*_, _<_}
 use mathlib.Core.Path.{_≡_, refl, sym, ap, _∙_}
 use mathlib.Core.Bool.{true, false}
 use mathlib.Core.List.{List, [], _∷_}
@@ -21,7 +21,7 @@ use Rattle.ring.proofs.WayLaws.{share-none, share-sym}
 use Rattle.ring.proofs.RoutingLaws.{routing-disjoint}
 use Rattle.ring.proofs.Counting.{bit}
 use Rattle.ring.proofs.PlanLaws.{served?, served-set, served-blocked}
-use Rattle.planner.specs.PairPart.{firstFate, secondFate, pairedFrom, pairPart}
+use Rattle.planner.specs.PairPart.{firstFate, secondFate, pairedFrom, pairFates, colouredPairs}
 use Rattle.planner.proofs.Lists.{ends-all}
 
 -- A part of a matching is a matching.
@@ -49,7 +49,7 @@ matching-take R w P matching = record {
 
 -- Who is served in a colour.
 
-set-cases : {A : Type 0} (l : List A) (i x : ℕ) (a d : A) → ((x ≡ i) × (getD (set l i a) x d ≡ a)) ⊎ (getD (set l i a) x d ≡ getD l x d)
+pub set-cases : {A : Type 0} (l : List A) (i x : ℕ) (a d : A) → ((x ≡ i) × (getD (set l i a) x d ≡ a)) ⊎ (getD (set l i a) x d ≡ getD l x d)
 set-cases [] i x a d = inr refl
 set-cases (y ∷ l) zero zero a d = inl (refl, refl)
 set-cases (y ∷ l) zero (suc x) a d = inr refl
@@ -89,12 +89,20 @@ blocked-at zero x = refl
 blocked-at (suc m) zero = refl
 blocked-at (suc m) (suc x) = blocked-at m x
 
+pub pair-fates-length : (n w : ℕ) (R : List Request) (P : List Pair) → length (pairFates n w R P) ≡ length R
+unfolding pairFates
+pair-fates-length n w R P = paired-length n R 0 (take w P) _ ∙ length-replicate (length R) Blocked
+
+-- the colours of a plan are below c
+abbrev pub ColoursBelow : ℕ → List Fate → Type 0
+ColoursBelow c F = (i d : ℕ) (u : Way) → fate F i ≡ Served u d → d < c
+
 module _ (n w : ℕ) (R : List Request) (valid : ValidRequests n R) (P : List Pair) (matching : IsMatching R P) where
   abbrev coloured : List Pair
   coloured = take w P
 
-  holder : (x c : ℕ) (u : Way) → fate (pairPart n w R P) x ≡ Served u c → Holds n R 0 coloured x u c
-  unfolding pairPart
+  holder : (x c : ℕ) (u : Way) → fate (pairFates n w R P) x ≡ Served u c → Holds n R 0 coloured x u c
+  unfolding pairFates
   holder x c u e = ⊎-elim (λ t. t) (λ t. impossible (cc (blocked-at (length R) x)))
       (paired-cases n R 0 coloured (replicate (length R) Blocked) x u c e)
 
@@ -114,18 +122,19 @@ module _ (n w : ℕ) (R : List Request) (valid : ValidRequests n R) (P : List Pa
         share-none n (secondWay n r s) s (firstWay r s) r (share-sym n (secondWay n r s) s (firstWay r s) r ∙ disjoint) link h,
       )
 
-  pub pair-part-feasible : Feasible n w R (pairPart n w R P)
-  unfolding pairPart
-  pair-part-feasible = record {
-    each = paired-length n R 0 coloured _ ∙ length-replicate (length R) Blocked;
-    colours = λ i c u e. below (holder i c u e);
+  pub pair-fates-below : ColoursBelow (colouredPairs w P) (pairFates n w R P)
+  pair-fates-below i c u e = elim (holder i c u e) [
+    | first k l q s t ↦ omega (arith, length-take w P)
+    | second k l q s t ↦ omega (arith, length-take w P)
+  ]
+
+  pub pair-fates-feasible : Feasible n w R (pairFates n w R P)
+  pair-fates-feasible = record {
+    each = pair-fates-length n w R P;
+    colours = λ i c u e. omega (arith, pair-fates-below i c u e);
     apart = λ i j c u v d e f link h k. apart i j c u v d (holder i c u e) (holder j c v f) link h k;
   }
     where
-      below : {i : ℕ} {u : Way} {c : ℕ} → Holds n R 0 coloured i u c → c < w
-      below (first k l q s t) = omega (arith, length-take w P)
-      below (second k l q s t) = omega (arith, length-take w P)
-
       apart : (i j c : ℕ) (u v : Way) → i ≢ j → Holds n R 0 coloured i u c → Holds n R 0 coloured j v c
           → (link : ℕ) → link < n → uses u (request R i) link ≡ true → uses v (request R j) link ≡ false
       apart i j c u v d (first k l q s t) (first k′ l′ q′ s′ t′) link h g =
@@ -142,7 +151,7 @@ module _ (n w : ℕ) (R : List Request) (valid : ValidRequests n R) (P : List Pa
 -- How many are served.
 
 -- one more, where a blocked request gets a colour
-serve-one : (F : List Fate) (i c : ℕ) (u : Way) → i < length F → fate F i ≡ Blocked → served (set F i (Served u c)) ≡ suc (served F)
+pub serve-one : (F : List Fate) (i c : ℕ) (u : Way) → i < length F → fate F i ≡ Blocked → served (set F i (Served u c)) ≡ suc (served F)
 serve-one F i c u h e =
     let none : bit (served? (fate F i)) ≡ 0 = cc in
     omega (arith, served-set F i (Served u c) h)
@@ -178,9 +187,9 @@ paired-serves n R c (p ∷ P) F free once =
               ∙ (getD-set-other F (p .first) x _ Blocked (λ q. once 0 (suc (suc j)) (omega arith) (omega arith) (sym q)) ∙ before .1),
         )
 
-pub pair-part-serves : (n w : ℕ) (R : List Request) (P : List Pair) → IsMatching R P → served (pairPart n w R P) ≡ 2 * min (length P) w
-unfolding pairPart
-pair-part-serves n w R P matching =
+pub pair-fates-serve : (n w : ℕ) (R : List Request) (P : List Pair) → IsMatching R P → served (pairFates n w R P) ≡ 2 * colouredPairs w P
+unfolding pairFates
+pair-fates-serve n w R P matching =
     let part = matching-take R w P matching in
     omega (
       arith,

@@ -1,5 +1,5 @@
 -- Demand 3 of the plan that a maximum matching gives, from what the chain part promises.
-use Prim.Native.Nat.{ℕ, _*_, _≤_, _<_, min, max}
+use Prim.Native.Nat.{ℕ, _≤_, _<_, max}
 use mathlib.Core.Path.{_≡_, refl, _∙_}
 use mathlib.Core.List.{List, _++_, map}
 use native.Mathlib.Omega.{arith}
@@ -15,11 +15,11 @@ use Rattle.ring.proofs.Cases.{less, not-less, compare}
 use Rattle.ring.proofs.FateLaws.{fates-of-numbers}
 use Rattle.chain.specs.ChainPart.{chainPart}
 use Rattle.chain.specs.Promises.{OptimalOffSeam}
-use Rattle.planner.specs.PairPart.{pairPart}
+use Rattle.planner.specs.PairPart.{colouredPairs, pairPart, pairCount}
 use Rattle.planner.specs.Plan.{partUsed, planOf, summary}
 use Rattle.planner.specs.Promise.{readPlan, Demand3}
 use Rattle.planner.proofs.Bound.{ceiling, two-thirds}
-use Rattle.planner.proofs.PairLaws.{pair-part-feasible, pair-part-serves}
+use Rattle.planner.proofs.FillLaws.{pair-part-feasible, pair-part-serves}
 
 -- the pair part serves more
 pub plan-pair : (n w : ℕ) (R : List Request) (P : List Pair) → served (chainPart n w R) < served (pairPart n w R P)
@@ -41,7 +41,7 @@ module _ (n w : ℕ) (R : List Request) (valid : ValidRequests n R) (chain : Opt
     | not-less h e ↦ rw (plan-chain n w R P h) (chain .feasible)
   ]
 
-  plan-serves : served (planOf n w R P) ≡ max (served (chainPart n w R)) (2 * min (length P) w)
+  plan-serves : served (planOf n w R P) ≡ max (served (chainPart n w R)) (pairCount (length R) w (colouredPairs w P))
   plan-serves =
       let pairs = pair-part-serves n w R P (maximum .matching) in
       elim (compare (served (chainPart n w R)) (served (pairPart n w R P))) [
@@ -60,8 +60,8 @@ module _ (n w : ℕ) (R : List Request) (valid : ValidRequests n R) (chain : Opt
   demand rest = record {
     feasible = rw (plan-read rest) plan-feasible;
     twoThirds = rw (plan-read rest, plan-serves)
-        (two-thirds n w R (served (chainPart n w R)) (length P)
-        (ceiling n w R valid (served (chainPart n w R)) (length P) (chain .most) (maximum .largest)));
+        (two-thirds n w R (served (chainPart n w R)) (length P) _
+        (ceiling n w R valid (served (chainPart n w R)) (length P) (chain .most) (maximum .largest)) (omega arith) (omega arith));
     chain = refl;
     chainFeasible = chain .feasible;
     chainKeepsOff = chain .keepsOff;

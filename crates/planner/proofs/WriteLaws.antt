@@ -1,4 +1,4 @@
--- The walk over the mates writes the pair part.
+-- The walk over the mates writes the fates of the pairs.
 use Prim.Native.Nat.{ℕ, zero, suc, _+_, _-_, _/_, _≤_, _<_}
 use mathlib.Core.Path.{_≡_, refl, sym, ap, _∙_}
 use mathlib.Core.Bool.{Bool, true, false, cond}
@@ -22,7 +22,7 @@ use Rattle.ring.proofs.Cases.{less, not-less, compare, impossible}
 use Rattle.ring.proofs.ListLaws.{drop-next}
 use Rattle.ring.proofs.WayLaws.{sharing-means}
 use Rattle.matching.specs.Maximum.{lowerPair, pairsFrom, pairsOf}
-use Rattle.planner.specs.PairPart.{firstFate, secondFate, pairedFrom, pairPart}
+use Rattle.planner.specs.PairPart.{firstFate, secondFate, pairedFrom, pairFates}
 use Rattle.planner.specs.Internal.Writing.{otherWay, withPair, takes, tableAfter, colourAfter, writtenFrom, MateFits, Writable}
 use Rattle.planner.specs.Internal.Writing.{pairTable}
 use Rattle.planner.proofs.PairLaws.{matching-take}
@@ -131,12 +131,12 @@ module _ (n : ℕ) (R : List Request) (valid : ValidRequests n R) where
       (table-numbers (c + 1) P (set F₁ j (secondFate n R p c)) rest (length-set F₁ j _ ∙ (length-set F i _ ∙ e))
       (λ k l. inside (suc k) (omega arith)))
 
-  -- from a table whose first m entries are 0, the walk over the mates writes the pair part
-  pub written-pair-part : (w : ℕ) (mates rest : List ℕ) → IsMatching R (pairsOf (length R) mates)
+  -- from a table whose first m entries are 0, the walk over the mates writes the fates of the pairs
+  pub written-pair-fates : (w : ℕ) (mates rest : List ℕ) → IsMatching R (pairsOf (length R) mates)
       → writtenFrom w R 0 0 (take (length R) mates) (replicate (length R) 0 ++ rest)
-      ≡ map fateNumber (pairPart n w R (pairsOf (length R) mates)) ++ rest
-  unfolding pairPart pairsOf
-  written-pair-part w mates rest matching =
+      ≡ map fateNumber (pairFates n w R (pairsOf (length R) mates)) ++ rest
+  unfolding pairFates pairsOf
+  written-pair-fates w mates rest matching =
       let P = pairsFrom 0 (take (length R) mates) in
       let all : w - 0 ≡ w = omega arith in
       (rw all at (written-pairs w R 0 0 (take (length R) mates) (replicate (length R) 0 ++ rest)))
@@ -216,7 +216,7 @@ module _ (n w : ℕ) (ends mates start : List ℕ) (writable : Writable n w ends
   pub cleared-written : (cleared : List ℕ) → cleared ≡ replicate (length ends / 2) 0 ++ drop (length ends / 2) start
       → writtenFrom w (requestsOf ends) 0 0 (take (length ends / 2) mates) cleared ≡ pairTable n w (requestsOf ends) mates start
   cleared-written cleared e =
-      rw (e, half) (written-pair-part n (requestsOf ends) (writable .valid) w mates (drop (length (requestsOf ends)) start)
+      rw (e, half) (written-pair-fates n (requestsOf ends) (writable .valid) w mates (drop (length (requestsOf ends)) start)
       (writable .matching))
 
 pub written-again : (w : ℕ) (R : List Request) (i c m : ℕ) (mates table : List ℕ) (j c′ : ℕ) (table′ whole : List ℕ)

@@ -1,3 +1,4 @@
 -- For contracts inside and for proofs alone: nothing here has to be believed.
 pub mod Writing
+pub mod Filling
 pub mod Choosing

@@ -1,5 +1,5 @@
 -- What plan promises.
-use Prim.Native.Nat.{ℕ, _*_, _-_, min}
+use Prim.Native.Nat.{ℕ, _-_, min}
 use mathlib.Core.Path.{_≡_}
 use mathlib.Core.List.{List, _++_, map}
 use lib.ListN.{length, take, drop}
@@ -16,7 +16,7 @@ use Rattle.chain.specs.ChainPart.{chainPart}
 use Rattle.planner.specs.declared.answers.Summary.{Summary}
 use Rattle.planner.specs.declared.answers.PlanAnswer.{PlanAnswer}
 use Rattle.planner.specs.declared.answers.PlanAnswer.the-variants as answer
-use Rattle.planner.specs.PairPart.{ByLower}
+use Rattle.planner.specs.PairPart.{ByLower, pairCount}
 use Rattle.planner.specs.Plan.{planOf, summary}
 use Rattle.planner.specs.Ceiling.{ChainBound, MatchBound, TwoThirds}
 
@@ -38,8 +38,8 @@ pub record Demand3 (n w : ℕ) (R : List Request) (table : List ℕ) (counts : S
   pub matched : counts .matched ≡ length pairs
   pub matching : IsMatching R pairs
   pub matchMost : MatchBound R (counts .matched)
-  -- "The pair count is twice the smaller of the match count and w."
-  pub paired : counts .paired ≡ 2 * min (counts .matched) w
+  -- "The pair count is 2k plus the smaller of w−k and m−2k", with k "the smaller of the match count and w"
+  pub paired : counts .paired ≡ pairCount (length R) w (min (counts .matched) w)
 
 -- a plan is made. Which maximum matching is found is open: `pairs` is one, and all else follows from it
 pub record PlanMade (n w : ℕ) (R : List Request) (before after : List ℕ) (result : PlanAnswer) : Type 0 where

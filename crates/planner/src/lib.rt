@@ -2,6 +2,7 @@
 pub mod answers;
 pub mod pairs;
 pub mod plans;
+pub mod spares;
 
 pub use answers::Part;
 pub use answers::PlanAnswer;

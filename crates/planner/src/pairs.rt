@@ -1,4 +1,4 @@
-// The pair part, written into a table of fate numbers.
+// The pairs of the pair part, written into a table of fate numbers.
 use ring::Fate;
 use ring::Request;
 use ring::Ring;
@@ -49,7 +49,7 @@ fn other_way(first: Way, r: Request, s: Request) -> Way
 }
 
 // The number of a fate that is served.
-fn served_number(way: Way, colour: u16) -> u16
+pub fn served_number(way: Way, colour: u16) -> u16
     requires { ⌜ colour < 128 ⌝ }
     ensures { λ r. ⌜ r ≡ fateNumber (Fate.Served way colour) ⌝ }
 {
@@ -85,7 +85,7 @@ fn take_pair(ends: &[u16], i: usize, j: usize, colour: u16, w: u16, table: &mut 
     colour + 1
 }
 
-// The pair part of the matching that the mates are: its fate numbers in the first m entries.
+// The pairs of the matching that the mates are: their fate numbers in the first m entries, with every other request blocked.
 pub fn write_pairs(ring: Ring, ends: &[u16], mates: &[u16; 512], table: &mut [u16])
     requires { ⌜ Writable (ring .nodes) (ring .colours) (now ends) (now mates) (now table) ⌝ }
     ensures { λ _. ⌜ now (table .exit)

@@ -3,9 +3,11 @@ use super::answers::Part;
 use super::answers::PlanAnswer;
 use super::answers::Summary;
 use super::pairs::write_pairs;
+use super::spares::fill;
 use chain::colour;
 use matching::maximum;
 use ring::Ring;
+use ring::numbers::narrow;
 use ring::numbers::smaller;
 use ring::requests::call_answer;
 use ring::rings::RingAnswer;
@@ -28,10 +30,14 @@ fn choose(
     ensures { λ r. ⌜ Chosen (ring .nodes) (ring .colours) (requestsOf (now (ends .entry)))
         (pairsOf (length (requestsOf (now (ends .entry)))) (now (mates .entry))) (now (table .entry)) (now (table .exit)) r ⌝ }
 {
+    let m = ends.len() / 2;
     let matched = size as u16;
-    let paired = 2 * smaller(matched, ring.colours);
+    let pairs = smaller(matched, ring.colours);
+    let spare = ring.colours - pairs;
+    let paired = 2 * pairs + smaller(spare, narrow(m) - 2 * pairs);
     if chain < paired {
         write_pairs(ring, ends, mates, table);
+        fill(spare, ring.colours, &mut table[..m]);
         return Summary {
             chain,
             matched,

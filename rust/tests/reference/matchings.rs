@@ -17,8 +17,8 @@ pub fn compatible_lists(requests: &[(u16, u16)]) -> Vec<Vec<usize>> {
     (0..requests.len()).map(others).collect()
 }
 
-/// The size of a maximum matching, by Edmonds's algorithm with contracted blossoms.
-pub fn match_count(requests: &[(u16, u16)]) -> usize {
+/// The pairs of a maximum matching, by Edmonds's algorithm with contracted blossoms: by rising lower number, which comes first.
+pub fn maximum_pairs(requests: &[(u16, u16)]) -> Vec<(usize, usize)> {
     let m = requests.len();
     let edges = compatible_lists(requests);
     let mut mate = vec![usize::MAX; m];
@@ -27,7 +27,15 @@ pub fn match_count(requests: &[(u16, u16)]) -> usize {
             augment(root, &edges, &mut mate);
         }
     }
-    mate.iter().filter(|&&v| v != usize::MAX).count() / 2
+    (0..m)
+        .filter(|&i| mate[i] != usize::MAX && i < mate[i])
+        .map(|i| (i, mate[i]))
+        .collect()
+}
+
+/// The size of a maximum matching.
+pub fn match_count(requests: &[(u16, u16)]) -> usize {
+    maximum_pairs(requests).len()
 }
 
 fn augment(root: usize, edges: &[Vec<usize>], mate: &mut [usize]) {

@@ -5,6 +5,7 @@ pub mod books;
 pub mod draws;
 pub mod lists;
 pub mod matchings;
+pub mod pairs;
 pub mod stored;
 
 /// A deterministic generator of test data.
@@ -53,7 +54,7 @@ pub fn chain_count(w: usize, requests: &[(u16, u16)]) -> usize {
 }
 
 /// The links of a way, as a list of flags.
-fn links(n: usize, (a, b): (u16, u16), seam: bool) -> Vec<bool> {
+pub fn links(n: usize, (a, b): (u16, u16), seam: bool) -> Vec<bool> {
     (0..n)
         .map(|l| ((a as usize) <= l && l < b as usize) != seam)
         .collect()

@@ -1,4 +1,4 @@
--- What the functions inside compute when they write the pair part into a table of fate numbers.
+-- What the functions inside compute when they write the fates of the pairs into a table of fate numbers.
 use Prim.Native.Nat.{ℕ, _+_, _*_, _<_, _≤_}
 use mathlib.Core.Path.{_≡_}
 use mathlib.Core.Bool.{Bool, _&&_, cond}
@@ -15,7 +15,7 @@ use Rattle.ring.specs.Internal.Sharing.{sharing}
 use Rattle.ring.specs.Matchings.{IsMatching}
 use Rattle.ring.specs.Routing.{seamIf, firstWay}
 use Rattle.matching.specs.Maximum.{pairsOf}
-use Rattle.planner.specs.PairPart.{pairPart}
+use Rattle.planner.specs.PairPart.{pairFates}
 
 -- the way of the second request, by comparing ends
 abbrev pub otherWay : Way → Request → Request → Way
@@ -68,6 +68,6 @@ pub record Writable (n w : ℕ) (ends mates table : List ℕ) : Type 0 where
   pub room : length (requestsOf ends) ≤ length table
   pub matching : IsMatching (requestsOf ends) (pairsOf (length (requestsOf ends)) mates)
 
--- the first m entries are the fate numbers of the pair part, the others stay
+-- the first m entries are the fate numbers of the pairs, the others stay
 abbrev pub pairTable : ℕ → ℕ → List Request → List ℕ → List ℕ → List ℕ
-pairTable n w R mates table = map fateNumber (pairPart n w R (pairsOf (length R) mates)) ++ drop (length R) table
+pairTable n w R mates table = map fateNumber (pairFates n w R (pairsOf (length R) mates)) ++ drop (length R) table
