@@ -32,13 +32,13 @@ module _ (n w : ℕ) (R : List Request) (F : List Fate) (feasible : Feasible n w
   abbrev given : List Fate
   given = set F (lowestBlocked F) (Served Plain c)
 
-  who : (x d : ℕ) (u : Way) → fate given x ≡ Served u d → Given F c x u d
-  who x d u e =
+  given-cases : (x d : ℕ) (u : Way) → fate given x ≡ Served u d → Given F c x u d
+  given-cases x d u e =
       ⊎-elim (λ s. now (s .0) (cc)) (λ s. let same : fate F x ≡ Served u d = cc in before same (below x d u same))
       (set-cases F (lowestBlocked F) x (Served Plain c) Blocked)
 
   given-below : ColoursBelow (c + 1) given
-  given-below x d u e = elim (who x d u e) [
+  given-below x d u e = elim (given-cases x d u e) [
     | before f h ↦ omega arith
     | now s q ↦ omega arith
   ]
@@ -48,7 +48,7 @@ module _ (n w : ℕ) (R : List Request) (F : List Fate) (feasible : Feasible n w
   given-feasible = record {
     each = length-set F (lowestBlocked F) (Served Plain c) ∙ feasible .each;
     colours = λ x d u e. omega (arith, given-below x d u e);
-    apart = λ i j d u v far e f. apart i j d u v far (who i d u e) (who j d v f);
+    apart = λ i j d u v far e f. apart i j d u v far (given-cases i d u e) (given-cases j d v f);
   }
     where
       apart : (i j d : ℕ) (u v : Way) → i ≢ j → Given F c i u d → Given F c j v d

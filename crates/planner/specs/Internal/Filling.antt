@@ -26,7 +26,7 @@ numberAfter w spare x = cond (takesSpare spare x) (fateNumber (Served Plain (w -
 abbrev pub spareAfter : ℕ → ℕ → ℕ
 spareAfter spare x = cond (takesSpare spare x) (spare - 1) spare
 
--- request by request
+-- the table after one pass over its requests, which gives the spare colours out
 abbrev pub givenOut : ℕ → ℕ → List ℕ → List ℕ
 givenOut w spare [] = []
 givenOut w spare (x ∷ table) = numberAfter w spare x ∷ givenOut w (spareAfter spare x) table
