@@ -1,5 +1,5 @@
-// Times the calls on a stored book, and the check of a plan, against the same done in plain C++: the stored form decoded with its checks, the
-// circuits in a vector, and the form encoded again.
+// Times the calls on a stored book, and the check of a plan, against the same done in plain C++: the stored form decoded with its
+// checks, the circuits in a vector, and the form encoded again. A preview is timed against the same grants, made one after another.
 #include "lists.hpp"
 #include "tarziloen.h"
 #include <chrono>
@@ -179,6 +179,27 @@ static void time_book(size_t circuits) {
          }));
 }
 
+static void time_preview(size_t circuits) {
+    const Bytes stored = book_of(circuits);
+    uint16_t values[19], lines[64];
+    for (uint16_t i = 0; i < 16; i++) {
+        const uint16_t asked[4] = {250, 255, 0, i};
+        std::memcpy(lines + 4 * i, asked, sizeof asked);
+    }
+    Bytes buffer(5120);
+    double grants = microseconds([&] {
+        size_t length = stored.size();
+        std::memcpy(buffer.data(), stored.data(), length);
+        for (uint16_t i = 0; i < 16; i++) {
+            if (tarziloen_book_grant(buffer.data(), buffer.size(), length, 250, 255, 0, i, values, 2) != 0) std::exit(1);
+            length = values[1];
+        }
+    });
+    double preview = microseconds([&] { tarziloen_book_preview(stored.data(), stored.size(), lines, 64, values, 19); });
+    if (values[0] != 16 || values[1] != 65535 || values[18] != circuits + 16) std::exit(1);
+    line("preview of 16 lines", circuits, preview, grants);
+}
+
 static void time_check(int m) {
     Random random{uint64_t(m)};
     Ends ends = random_chords(m, random);
@@ -196,4 +217,6 @@ int main() {
     std::printf("%-24s %8s %10s %10s %7s\n", "call", "circuits", "ours us", "C++ us", "ratio");
     for (size_t circuits : {size_t(0), size_t(256), size_t(511)}) time_book(circuits);
     for (int m : {64, 128, 256, 512}) time_check(m);
+    std::printf("%-24s %8s %10s %10s %7s\n", "call", "circuits", "ours us", "grants us", "ratio");
+    for (size_t circuits : {size_t(0), size_t(256), size_t(496)}) time_preview(circuits);
 }

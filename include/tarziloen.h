@@ -44,6 +44,8 @@
  *       up to the grants so far, or feasibility
  *   21  the text is longer than 8,192 bytes or not of the stated form; only
  *       printed, by tarziloen_answer
+ *   22  no line or more than 16, or a number of entries that is no multiple of
+ *       four; in tarziloen_book_preview
  *
  * A refused call changes neither plan table nor buffer. The values of a call go
  * to the first entries of `values`; where it has fewer, as many as fit are
@@ -62,6 +64,9 @@ extern "C" {
 
 /* The longest stored form of a book, in bytes. */
 #define TARZILOEN_BOOK_BYTES 5120
+
+/* The most values of tarziloen_book_preview, those of 16 serials. */
+#define TARZILOEN_PREVIEW_VALUES 19
 
 /* The longest output of tarziloen_answer, in bytes, and its longest text. */
 #define TARZILOEN_ANSWER_BYTES 8192
@@ -171,6 +176,24 @@ uint16_t tarziloen_book_show(const uint8_t *bytes, size_t bytes_length,
 uint16_t tarziloen_book_holder(const uint8_t *bytes, size_t bytes_length,
                                uint16_t link, uint16_t colour,
                                uint16_t *values, size_t values_length);
+
+/*
+ * Tries 1 to 16 grants: says what they would answer on a copy of the book, one
+ * after another, up to the first that would be turned down; later lines are not
+ * looked at. The book stays as it is.
+ *
+ * In: `bytes`, the book, no byte more; `lines`, four entries for each line in
+ * turn, as in tarziloen_book_grant: x, y, way (0 plain, 1 seam), colour.
+ * Values: the number of serials; the line, counted from 0, that would be turned
+ * down, and the number of its ground, or 65,535 and 0 if no line would be; then
+ * the serials that the lines before it, or all of them, would get, in order.
+ * TARZILOEN_PREVIEW_VALUES entries have room for every answer.
+ * Refused: 18, 19, 20, then 22, before any line is looked at. A line's own
+ * ground, 4, 5, 9 to 13, is among the values of an accepted call.
+ */
+uint16_t tarziloen_book_preview(const uint8_t *bytes, size_t bytes_length,
+                                const uint16_t *lines, size_t lines_length,
+                                uint16_t *values, size_t values_length);
 
 #ifdef __cplusplus
 }

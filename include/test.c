@@ -1,6 +1,7 @@
 /*
- * Calls every function of tarziloen.h, on cases T1, T5 and T7 of the rules and
- * on the refusals of a book in a buffer; prints each answer that is another one.
+ * Calls every function of tarziloen.h, on cases T1, T5 and T7 of the rules, on a
+ * bundle and on the refusals of a book in a buffer; prints each answer that is
+ * another one.
  *
  * From the top folder, after `rt staticlib export`:
  *
@@ -111,8 +112,48 @@ static void book(void)
     expect("colour 1", tarziloen_book_holder(buffer, 1024, 0, 1, values, 4), 10);
 }
 
+static void preview(void)
+{
+    /* Line 1 wants link 1, which line 0 would hold; line 2 is not looked at. */
+    const uint16_t lines[12] = {1, 2, 0, 0, 3, 1, 0, 0, 9, 9, 9, 9};
+    const uint16_t many[68] = {9};
+    uint8_t buffer[TARZILOEN_BOOK_BYTES] = {0};
+    uint8_t before[TARZILOEN_BOOK_BYTES];
+    uint16_t values[TARZILOEN_PREVIEW_VALUES] = {0};
+
+    expect("open", tarziloen_book_open(4, 1, buffer, sizeof buffer, values, 19), 0);
+    expect("{0,1}", tarziloen_book_grant(buffer, sizeof buffer, 512, 0, 1, 0, 0, values, 19), 0);
+    memcpy(before, buffer, sizeof buffer);
+    expect("line 0 alone", tarziloen_book_preview(buffer, 1024, lines, 4, values, 19), 0);
+    expect("one serial", values[0], 1);
+    expect("no line turned down", values[1], 65535);
+    expect("no ground", values[2], 0);
+    expect("its serial", values[3], 2);
+    expect("line 1 alone", tarziloen_book_preview(buffer, 1024, lines + 4, 4, values, 19), 0);
+    expect("no line turned down", values[1], 65535);
+    expect("all lines", tarziloen_book_preview(buffer, 1024, lines, 12, values, 19), 0);
+    expect("one serial", values[0], 1);
+    expect("line 1", values[1], 1);
+    expect("held", values[2], 11);
+    expect("serial of line 0", values[3], 2);
+    expect("line 2 alone", tarziloen_book_preview(buffer, 1024, lines + 8, 4, values, 3), 0);
+    expect("no serial", values[0], 0);
+    expect("line 0", values[1], 0);
+    expect("an end", values[2], 4);
+    values[0] = 7;
+    expect("no line", tarziloen_book_preview(buffer, 1024, lines, 0, values, 19), 22);
+    expect("3 entries", tarziloen_book_preview(buffer, 1024, lines, 3, values, 19), 22);
+    expect("17 lines", tarziloen_book_preview(buffer, 1024, many, 68, values, 19), 22);
+    expect("untouched values", values[0], 7);
+    expect("16 lines", tarziloen_book_preview(buffer, 1024, many, 64, values, 19), 0);
+    expect("same buffer", memcmp(buffer, before, sizeof buffer) == 0, 1);
+    expect("{1,2}", tarziloen_book_grant(buffer, sizeof buffer, 1024, 1, 2, 0, 0, values, 19), 0);
+    expect("the serial of the preview", values[0], 2);
+}
+
 static void refusals(void)
 {
+    const uint16_t lines[3] = {9, 9, 9};
     uint8_t buffer[1024] = {7};
     uint16_t values[2] = {0};
 
@@ -124,8 +165,10 @@ static void refusals(void)
     expect("no room for a circuit", tarziloen_book_grant(buffer, 1023, 512, 0, 2, 0, 0, values, 2), 17);
     expect("length past the buffer", tarziloen_book_remove(buffer, 511, 512, 1, values, 2), 18);
     expect("length of no form", tarziloen_book_show(buffer, 511, 1, values, 2), 18);
+    expect("length of no form", tarziloen_book_preview(buffer, 511, lines, 3, values, 2), 18);
     buffer[4] ^= 1;
     expect("changed byte", tarziloen_book_holder(buffer, 512, 0, 0, values, 2), 19);
+    expect("changed byte", tarziloen_book_preview(buffer, 512, lines, 3, values, 2), 19);
     expect("changed byte", tarziloen_book_grant(buffer, sizeof buffer, 512, 0, 0, 2, 9, values, 2), 19);
 }
 
@@ -135,6 +178,7 @@ int main(void)
     spare_colour();
     answer();
     book();
+    preview();
     refusals();
     printf(failures == 0 ? "ok\n" : "failed\n");
     return failures != 0;

@@ -20,6 +20,29 @@ pub struct Circuit {
     pub colour: u16,
 }
 
+/// A grant that is asked for: its ends in any order, its way and its colour.
+#[derive(Clone, Copy, Debug, PartialEq, Eq)]
+pub struct Line {
+    pub x: u16,
+    pub y: u16,
+    pub way: Way,
+    pub colour: u16,
+}
+
+/// What grants would give one after another: the serials up to the first line that would be turned down, if there is one.
+#[derive(Clone, Debug, PartialEq, Eq)]
+pub struct Preview {
+    pub serials: Vec<u16>,
+    pub stop: Option<Stop>,
+}
+
+/// The line, counted from 0, that would be turned down, and why.
+#[derive(Clone, Copy, Debug, PartialEq, Eq)]
+pub struct Stop {
+    pub line: usize,
+    pub refusal: Refusal,
+}
+
 /// A book, held as its stored form. Two books are equal if n, w, grants so far and live circuits agree.
 #[derive(Clone)]
 pub struct Book {
@@ -81,6 +104,15 @@ impl Book {
     /// The serial of the circuit that holds a colour on a link, or none if it is free.
     pub fn holder(&self, link: u16, colour: u16) -> Result<Option<u16>, Refusal> {
         buffers::holder(self.bytes(), link, colour)
+    }
+
+    /// Tries 1 to 16 grants, one after another, on a copy of the book.
+    pub fn preview(&self, lines: &[Line]) -> Result<Preview, Refusal> {
+        let numbers: Vec<u16> = lines
+            .iter()
+            .flat_map(|line| [line.x, line.y, line.way as u16, line.colour])
+            .collect();
+        buffers::preview(self.bytes(), &numbers)
     }
 }
 

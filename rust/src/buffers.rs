@@ -3,8 +3,11 @@
 //! Each call loads the book, acts and stores it. Refusals of the load come first, then those of the
 //! operation, then 17 for a buffer with no room for the new form. Bytes past the new form stay.
 
-use crate::refusals::answered;
-use crate::{raw, Circuit, Refusal, Way};
+use crate::refusals::{answered, answered_with};
+use crate::{raw, Circuit, Preview, Refusal, Stop, Way};
+
+/// The most values of a preview: the number of serials, a line and its refusal, 16 serials.
+const PREVIEW_VALUES: usize = 19;
 
 /// Opens a book of n nodes and w colours; gives the length of its form.
 pub fn open(n: u16, w: u16, buffer: &mut [u8]) -> Result<usize, Refusal> {
@@ -61,4 +64,23 @@ pub fn holder(bytes: &[u8], link: u16, colour: u16) -> Result<Option<u16>, Refus
         raw::tarziloen_book_holder(bytes.as_ptr(), bytes.len(), link, colour, values, count)
     })
     .map(|values| Some(values[0]).filter(|&serial| serial != 0))
+}
+
+/// Tries 1 to 16 grants, one after another, on a copy of the book of a stored form; each has four numbers: x, y, way, colour.
+pub fn preview(bytes: &[u8], lines: &[u16]) -> Result<Preview, Refusal> {
+    let (start, given) = (lines.as_ptr(), lines.len());
+    // SAFETY: as in `open`.
+    answered_with::<PREVIEW_VALUES>(|values, count| unsafe {
+        raw::tarziloen_book_preview(bytes.as_ptr(), bytes.len(), start, given, values, count)
+    })
+    .map(|[granted, line, number, serials @ ..]| Preview {
+        serials: serials[..granted as usize].to_vec(),
+        stop: (number != 0).then_some(Stop {
+            line: line as usize,
+            refusal: Refusal {
+                number,
+                values: [0, 0],
+            },
+        }),
+    })
 }

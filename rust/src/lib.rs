@@ -22,7 +22,7 @@ mod raw;
 mod refusals;
 mod texts;
 
-pub use books::{Book, Circuit, Way};
+pub use books::{Book, Circuit, Line, Preview, Stop, Way};
 pub use plans::{check, plan, Part, Summary};
 pub use refusals::Refusal;
 pub use texts::answer;

@@ -63,6 +63,14 @@ extern "C" {
         values: *mut u16,
         values_len: usize,
     ) -> u16;
+    pub fn tarziloen_book_preview(
+        bytes: *const u8,
+        bytes_len: usize,
+        lines: *const u16,
+        lines_len: usize,
+        values: *mut u16,
+        values_len: usize,
+    ) -> u16;
     pub fn tarziloen_answer(
         text: *const u8,
         text_len: usize,

@@ -38,6 +38,7 @@ impl Refusal {
                 the rising serials from 1 up to the grants so far, or feasibility"
             }
             21 => "more than 8,192 bytes, or a text not of the stated form",
+            22 => "no line or more than 16",
             _ => "unknown",
         }
     }
@@ -54,7 +55,14 @@ impl Error for Refusal {}
 /// What a call of the library gives, which writes its values to the place that it is handed: the values
 /// after result 0, else the refusal. A ground that carries less than two numbers leaves zeros.
 pub(crate) fn answered(call: impl FnOnce(*mut u16, usize) -> u16) -> Result<[u16; 4], Refusal> {
-    let mut values = [0u16; 4];
+    answered_with::<4>(call)
+}
+
+/// The same of a call with so many values.
+pub(crate) fn answered_with<const N: usize>(
+    call: impl FnOnce(*mut u16, usize) -> u16,
+) -> Result<[u16; N], Refusal> {
+    let mut values = [0u16; N];
     match call(values.as_mut_ptr(), values.len()) {
         0 => Ok(values),
         number => Err(Refusal {
@@ -74,10 +82,10 @@ mod tests {
             let values = [0, 0];
             Refusal { number, values }.ground()
         };
-        let mut all: Vec<&str> = (1..=21).map(words).collect();
+        let mut all: Vec<&str> = (1..=22).map(words).collect();
         all.sort();
         all.dedup();
-        assert_eq!(all.len(), 21);
-        assert!(!all.contains(&words(0)) && words(0) == words(22));
+        assert_eq!(all.len(), 22);
+        assert!(!all.contains(&words(0)) && words(0) == words(23));
     }
 }

@@ -3,19 +3,34 @@ mod desk;
 mod reference;
 
 use desk::{
-    draw_line, many, not_understood, refused, run, Folder, NaiveDesk, BOOK_THERE, HELP, NO_BOOK,
+    draw_line, not_understood, refused, run, Folder, NaiveDesk, BOOK_THERE, HELP, NO_BOOK,
     TOO_LONG, UNFINISHED,
 };
+use reference::books::many;
 use reference::stored::encode;
 use reference::Random;
 
 /// Case T7 of the rules, and every other command.
-const SESSION: [(&str, &str); 19] = [
+const SESSION: [(&str, &str); 25] = [
     ("count", "error there is no book yet (open N W begins one)"),
+    (
+        "preview 0 2 0 0",
+        "error there is no book yet (open N W begins one)",
+    ),
     ("open 4 1", "opened 4 1"),
     ("open 4 1", "error there is a book in the file already"),
     ("grant 0 2 0 0", "granted 1"),
     ("grant 3 2 0 0", "granted 2"),
+    ("preview 0 3 1 0", "would grant 3"),
+    (
+        "preview 3 0 1 0, 0 3 1 0, 9 9 9 9",
+        "would grant 3, line 1 refused 11 that colour is held on a link of the way",
+    ),
+    (
+        "preview 4 0 0 0",
+        "would grant none, line 0 refused 4 an end is n or more",
+    ),
+    ("preview", "refused 22 no line or more than 16"),
     ("holder 2 0", "held 2"),
     ("holder 3 0", "free"),
     ("show 2", "circuit 2 3 P 0"),
@@ -24,6 +39,7 @@ const SESSION: [(&str, &str); 19] = [
     ("grant 0 1 0 0", "granted 3"),
     ("remove 2", "removed 2"),
     ("remove 3", "removed 3"),
+    ("preview 1 2 1 0,1 2 0 0", "would grant 4 5"),
     ("grant 1 2 1 0", "granted 4"),
     ("show 4", "circuit 1 2 S 0"),
     ("holder 0 0", "held 4"),
@@ -65,13 +81,14 @@ const WITHOUT_BOOK: [(&str, u16); 4] = [
 ];
 
 /// Refused by a book of 256 nodes, 4 colours, 512 live circuits and 600 grants so far.
-const FULL_BOOK: [(&str, u16); 14] = [
+const FULL_BOOK: [(&str, u16); 15] = [
     ("grant 256 256 2 4", 4),
     ("grant 7 7 2 4", 5),
     ("grant 7 8 2 4", 9),
     ("grant 7 8 0 4", 10),
     ("grant 7 8 0 0", 11),
     ("grant 0 255 1 3", 12),
+    ("preview", 22),
     ("remove 0", 14),
     ("remove 601", 14),
     ("remove 600", 15),
@@ -125,11 +142,14 @@ fn every_refusal() {
 
 /// Lines that are no command.
 #[rustfmt::skip]
-const BROKEN: [&str; 31] = [
+const BROKEN: [&str; 45] = [
     "Count", "count 1", "counts", "show", "show ", "show 1 1", "show 000001", "show 65536", "show 99999",
     "show 100000", "show -1", "show +1", "show 1a", "show 0x1", "show\t1", "show 1\r", "show 1\0",
     "show \u{663}", "sh ow 1", "open 4", "open 4 1 1", "grant 0 1 0", "grant 0 1 0 0 0", "grant 0 1 P 0",
-    "remove", "holder 1", "holder 1 1 1", "help me", "lists", "\t", "close",
+    "remove", "holder 1", "holder 1 1 1", "help me", "lists", "\t", "close", "previews", "preview 1", "preview 1 2 0",
+    "preview 1 2 0 0 0", "preview ,", "preview 1 2 0 0,", "preview ,1 2 0 0", "preview 1 2 0 0, 2 3 0",
+    "preview 1 2 0 0,,2 3 0 0", "preview 1 2 0 0 , 2 3 0 0", "preview 1 2 0 0 2 3 0 0", "preview 1,2,0,0",
+    "preview 1 2 0 0, 2 3 0 65536", "preview,1 2 0 0",
 ];
 
 #[test]
@@ -177,7 +197,7 @@ fn as_people_type() {
     let names: Vec<&str> = HELP.lines().map(|l| l.split(' ').next().unwrap()).collect();
     assert_eq!(
         names.join(" "),
-        "open grant remove show holder count list help"
+        "open grant preview remove show holder count list help"
     );
 }
 

@@ -63,6 +63,11 @@ fn on_disk_before_it_is_said() {
             "create open read read close close unlink say".to_string(),
         ),
         (desk_of(70), "count", "open read read close say".to_string()),
+        (
+            desk_of(70),
+            "preview 0 2 0 9, 2 4 0 9",
+            "open read read close say".to_string(),
+        ),
         (desk_of(70), "help", "say".to_string()),
     ];
     for (desk, line, want) in cases {

@@ -8,8 +8,8 @@ use std::os::unix::fs::{symlink, MetadataExt, PermissionsExt};
 use std::os::unix::process::{CommandExt, ExitStatusExt};
 use std::process::{Command, Stdio};
 
-use desk::{busy, many, refused, run, Folder, BOOK_THERE, HELP, NO_BOOK};
-use reference::books::NaiveBook;
+use desk::{busy, refused, run, Folder, BOOK_THERE, HELP, NO_BOOK};
+use reference::books::{many, NaiveBook};
 use reference::stored::encode;
 
 #[test]
@@ -33,11 +33,11 @@ fn files_that_are_no_book() {
         (form[..1024].to_vec(), 20),
         (vec![0; 512], 20),
     ];
-    let commands = "open 4 1\ngrant 0 1 0 0\nremove 1\nshow 1\nholder 0 0\ncount\nlist\n";
+    let commands = "open 4 1\ngrant 0 1 0 0\npreview 0 1 0 0\npreview\nremove 1\nshow 1\nholder 0 0\ncount\nlist\n";
     for (bytes, number) in files {
         let file = Some(bytes);
         folder.put("book", &file);
-        assert_eq!(folder.answer(commands), refused(number).repeat(7));
+        assert_eq!(folder.answer(commands), refused(number).repeat(9));
         assert_eq!(folder.answer("\nhelp\n"), HELP, "no file is needed");
         assert_eq!(folder.bytes("book"), file, "the file stays");
         assert_eq!(folder.bytes("book.new"), None);
@@ -173,10 +173,12 @@ fn questions_leave_the_file_alone() {
     let before = inode();
     folder
         .answer("show 1\nholder 0 0\ncount\nlist\nremove 80\ngrant 0 0 0 0\nopen 3 1\nnonsense\n");
+    folder.answer("preview 0 1 0 3\npreview 0 1 0 3, 0 1 0 3\npreview 0 0 0 0\npreview\n");
     assert_eq!(inode(), before);
     // A question waits for nobody.
     folder.put("book.new", &Some(vec![7]));
     assert_eq!(folder.answer("count\n"), "live 70 grants 90\n");
+    assert_eq!(folder.answer("preview 0 1 0 3\n"), "would grant 91\n");
     folder.put("book.new", &None);
     folder.answer("remove 1\n");
     assert_ne!(inode(), before);

@@ -1,6 +1,6 @@
 -- The laws that the functions' proofs cite, and the theorems whose statements stand in specs/:
--- Forms (SameMeans), ConflictLaws (ConflictMeans), Validity (KeepsValid), PlaceLaws (PlacesUsedAgain), NoNodeLaws (TurnsAllDown),
--- EveryHistory.
+-- Forms (SameMeans), ConflictLaws (ConflictMeans), Validity (KeepsValid), PreviewLaws (PreviewSays), PlaceLaws (PlacesUsedAgain),
+-- NoNodeLaws (TurnsAllDown), EveryHistory.
 pub mod Places
 pub mod Forms
 pub mod CircuitLists
@@ -13,6 +13,9 @@ pub mod ConflictLaws
 pub mod Verdicts
 pub mod Granting
 pub mod Validity
+pub mod PreviewLaws
+pub mod Trials
+pub mod BundleLaws
 pub mod Showing
 pub mod Serials
 pub mod Holding

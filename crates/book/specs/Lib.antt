@@ -3,6 +3,7 @@ pub mod Circuits
 pub mod Books
 pub mod Holders
 pub mod Grants
+pub mod Previews
 pub mod Orders
 pub mod Removals
 pub mod Places

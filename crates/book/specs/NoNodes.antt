@@ -18,7 +18,8 @@ use Rattle.book.specs.Holders.{heldBy}
 abbrev pub noNodes : Book
 noNodes = bookOf 0 0 0 []
 
--- the promise that it turns every call down: a grant by 4, which lies in its arguments, an order by 14, a link by 16
+-- the promise that it turns every call down: a grant and the first line of a preview by 4, which lies in their arguments, an order by 14, a
+-- link by 16
 pub record TurnsAllDown : Type 0 where
   pub grants : (x y way colour : ℕ) → argumentVerdict (noNodes .n) (noNodes .w) x y way colour ≡ Refused CircuitEnd
   pub removals : (serial : ℕ) → removed noNodes serial ≡ record { answer = remove.Refused SerialNeverGiven; book = noNodes }

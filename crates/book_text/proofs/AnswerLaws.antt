@@ -3,21 +3,26 @@ use Prim.Native.Nat.{ℕ}
 use mathlib.Core.Path.{_≡_, refl, sym, _∙_, ap}
 use mathlib.Core.Bool.{Bool, true, false}
 use mathlib.Core.List.{List}
+use Rattle.ring.specs.declared.refusals.Refusal.{Refusal}
 use Rattle.ring.specs.Admission.{ringVerdict}
 use Rattle.book.specs.declared.books.Book.{Book}
 use Rattle.book.specs.declared.books.Opened.{Opened}
 use Rattle.book.specs.declared.books.OpenAnswer.{OpenAnswer}
+use Rattle.book.specs.declared.books.OpenAnswer.the-variants as opening
 use Rattle.book.specs.declared.grants.Granted.{Granted}
 use Rattle.book.specs.declared.grants.GrantAnswer.{GrantAnswer}
+use Rattle.book.specs.declared.grants.GrantAnswer.the-variants as grant
 use Rattle.book.specs.declared.removals.Removed.{Removed}
 use Rattle.book.specs.declared.removals.RemoveAnswer.{RemoveAnswer}
+use Rattle.book.specs.declared.removals.RemoveAnswer.the-variants as remove
 use Rattle.book.specs.declared.orders.ShowAnswer.{ShowAnswer}
 use Rattle.book.specs.declared.holders.HolderAnswer.{HolderAnswer}
-use Rattle.book.specs.Books.{opened}
+use Rattle.book.specs.Books.{Valid, opened}
 use Rattle.book.specs.Grants.{granted}
 use Rattle.book.specs.Removals.{removed}
 use Rattle.book.specs.Orders.{shown}
 use Rattle.book.specs.Holders.{heldBy}
+use Rattle.book.proofs.Validity.{keeps-valid}
 use Rattle.stored.specs.declared.loads.Loaded.{Loaded}
 use Rattle.stored.specs.declared.loads.LoadAnswer.{LoadAnswer}
 use Rattle.stored.specs.declared.loads.LoadAnswer.the-variants as load
@@ -25,12 +30,16 @@ use Rattle.stored.specs.Loading.{loaded}
 use Rattle.stored.proofs.Promised.{loads-only-forms}
 use Rattle.ring.proofs.Cases.{impossible}
 use Rattle.book_text.specs.declared.lines.Command.{Command}
+use Rattle.book_text.specs.declared.lines.Command.the-variants as command
 use Rattle.book_text.specs.declared.answers.State.{State}
-use Rattle.book_text.specs.declared.answers.State.the-variants.{Absent, Sound}
+use Rattle.book_text.specs.declared.answers.State.the-variants.{Absent, Broken, Sound}
 use Rattle.book_text.specs.declared.answers.Contents.{Contents}
+use Rattle.book_text.specs.declared.answers.Reply.{Reply}
+use Rattle.book_text.specs.declared.answers.Reply.the-variants as reply
 use Rattle.book_text.specs.declared.answers.Answered.{Answered}
 use Rattle.book_text.specs.Answers.{stateOf, contentsIn, ValidContents, openingBy, grantingBy, removingBy, showingBy, holdingBy}
-use Rattle.book_text.specs.Answers.{openingAnswer, grantAnswer, removeAnswer, showReply, holderReply, answeredIn, answered}
+use Rattle.book_text.specs.Answers.{openingAnswer, grantAnswer, removeAnswer, showReply, holderReply, turnedDown, answeredNone}
+use Rattle.book_text.specs.Answers.{answeredBook, answeredIn, answered}
 
 -- what a file holds, from what load answers
 pub find-none : (present : Bool) (bytes : List ℕ) {o : Opened} → present ≡ false → o ≡ opened 0 0
@@ -79,3 +88,78 @@ valid-found true bytes e = loads-only-forms bytes (sound (loaded bytes .answer) 
     sound : (a : LoadAnswer) → stateOf a ≡ Sound → a ≡ load.Loaded
     sound load.Loaded q = refl
     sound (load.Refused r) q = let z : true ≡ false = cc in impossible z
+
+-- a preview is replied only about a book that was found
+abbrev previews : Reply → Bool
+previews reply.Previewed = true
+previews (reply.Opened n w) = false
+previews (reply.Granted serial) = false
+previews (reply.Removed serial) = false
+previews (reply.Circuit x y way colour) = false
+previews reply.Free = false
+previews (reply.Held serial) = false
+previews (reply.Count live grants) = false
+previews reply.Orders = false
+previews (reply.Refused r) = false
+previews reply.BookThere = false
+previews reply.NoBook = false
+previews (reply.Aside a) = false
+
+other : {A : Type 0} {r : Reply} → previews r ≡ false → r ≡ reply.Previewed → A
+other e q = impossible (sym (ap previews q) ∙ e)
+
+none-previews : (b : Book) (c : Command) → previews (answeredNone b c .reply) ≡ false
+none-previews b (command.Open n w) = go (opened n w .answer) (opened n w .book)
+  where
+    go : (a : OpenAnswer) (d : Book) → previews (openingBy b n w a d .reply) ≡ false
+    go opening.Opened d = refl
+    go (opening.Refused r) d = refl
+none-previews b (command.Grant x y way colour) = refl
+none-previews b command.Preview = refl
+none-previews b (command.Remove serial) = refl
+none-previews b (command.Show serial) = refl
+none-previews b (command.Holder link colour) = refl
+none-previews b command.Count = refl
+none-previews b command.List = refl
+none-previews b (command.Aside a) = refl
+
+broken-previews : (b : Book) (r : Refusal) (c : Command) → previews (turnedDown b (reply.Refused r) c .reply) ≡ false
+broken-previews b r (command.Open n w) = refl
+broken-previews b r (command.Grant x y way colour) = refl
+broken-previews b r command.Preview = refl
+broken-previews b r (command.Remove serial) = refl
+broken-previews b r (command.Show serial) = refl
+broken-previews b r (command.Holder link colour) = refl
+broken-previews b r command.Count = refl
+broken-previews b r command.List = refl
+broken-previews b r (command.Aside a) = refl
+
+book-valid : (b : Book) → Valid b → (c : Command) → Valid (answeredBook b c .book)
+book-valid b v (command.Open n w) = v
+book-valid b v (command.Grant x y way colour) = go (granted b x y way colour .answer) (keeps-valid .granting b v x y way colour)
+  where
+    go : (a : GrantAnswer) {d : Book} → Valid d → Valid (grantingBy b a d .book)
+    go (grant.Granted serial) u = u
+    go (grant.Refused r) u = v
+book-valid b v command.Preview = v
+book-valid b v (command.Remove serial) = go (removed b serial .answer) (keeps-valid .removing b v serial)
+  where
+    go : (a : RemoveAnswer) {d : Book} → Valid d → Valid (removingBy b serial a d .book)
+    go remove.Removed u = u
+    go (remove.Refused r) u = v
+book-valid b v (command.Show serial) = v
+book-valid b v (command.Holder link colour) = v
+book-valid b v command.Count = v
+book-valid b v command.List = v
+book-valid b v (command.Aside a) = v
+
+pub previewed-valid : (contents : Contents) (c : Command) → ValidContents contents → {r : Answered} → r ≡ answered contents c
+    → r .reply ≡ reply.Previewed → Valid (r .book)
+unfolding answered
+previewed-valid contents c v e = rw e (go (contents .state) v)
+  where
+    go : (s : State) → (s ≡ Sound → Valid (contents .book)) → answeredIn s (contents .book) c .reply ≡ reply.Previewed
+        → Valid (answeredIn s (contents .book) c .book)
+    go Absent u q = other (none-previews (contents .book) c) q
+    go (Broken r) u q = other (broken-previews (contents .book) r c) q
+    go Sound u q = book-valid (contents .book) (u refl) c

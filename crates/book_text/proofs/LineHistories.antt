@@ -43,6 +43,9 @@ changing : (s : State) (b : Book) (c : Command) → answeredIn s b c .changes �
 changing s b (command.Open n w) e = refl
 changing s b (command.Grant x y way colour) e = refl
 changing s b (command.Remove serial) e = refl
+changing Absent b command.Preview e = impossible (sym e)
+changing (Broken r) b command.Preview e = impossible (sym e)
+changing Sound b command.Preview e = impossible (sym e)
 changing Absent b (command.Show serial) e = impossible (sym e)
 changing (Broken r) b (command.Show serial) e = impossible (sym e)
 changing Sound b (command.Show serial) e = impossible (sym e)
@@ -73,6 +76,7 @@ module _ (b : Book) where
       go : (a : GrantAnswer) (next : Book) → grantingBy b a next .changes ≡ false → grantingBy b a next .book ≡ b
       go (grant.Granted serial) next q = impossible q
       go (grant.Refused r) next q = refl
+  unchanged command.Preview e = refl
   unchanged (command.Remove serial) e = go (removed b serial .answer) (removed b serial .book) e
     where
       go : (a : RemoveAnswer) (next : Book) → removingBy b serial a next .changes ≡ false → removingBy b serial a next .book ≡ b
@@ -108,6 +112,7 @@ pub book-next : (o : Book) (calls : List Call) (c : Command) → answeredBook (r
 unfolding granted removed
 book-next o calls (command.Open n w) = refl
 book-next o calls (command.Grant x y way colour) = after-grant (run o calls) (grantVerdict (run o calls) x y way colour) _
+book-next o calls command.Preview = refl
 book-next o calls (command.Remove serial) = after-remove (run o calls) (lookup (run o calls) serial) (missing (run o calls) serial) serial
 book-next o calls (command.Show serial) = refl
 book-next o calls (command.Holder link colour) = refl

@@ -12,6 +12,7 @@ use Rattle.ring.proofs.Cases.{impossible}
 use Rattle.texts.specs.Internal.Writing.{Wrote}
 use Rattle.texts.proofs.WritingLaws.{wrote-front, wrote-length}
 use Rattle.book.specs.declared.books.Book.{Book}
+use Rattle.book.specs.Books.{Valid}
 use Rattle.book.proofs.Places.{live-length}
 use Rattle.stored.specs.declared.stores.StoreAnswer.{StoreAnswer}
 use Rattle.stored.specs.declared.stores.StoreAnswer.the-variants as store
@@ -20,12 +21,13 @@ use Rattle.stored.specs.Storing.{lengthOf, storeAnswer, afterStore}
 use Rattle.stored.proofs.StoreLaws.{form-length, store-answer, store-copied}
 use Rattle.book_text.specs.declared.lines.Command.{Command}
 use Rattle.book_text.specs.declared.answers.Contents.{Contents}
+use Rattle.book_text.specs.declared.answers.Reply.the-variants.{Previewed}
 use Rattle.book_text.specs.declared.answers.Answered.{Answered}
 use Rattle.book_text.specs.Lines.{heard, commandOf}
 use Rattle.book_text.specs.Answers.{contentsIn, ValidContents, answered}
 use Rattle.book_text.specs.Replies.{replyText}
 use Rattle.book_text.specs.Promises.{File, fileOf, contentsOf, obeyed, Told, ObeyPromise}
-use Rattle.book_text.proofs.AnswerLaws.{valid-found}
+use Rattle.book_text.proofs.AnswerLaws.{valid-found, previewed-valid}
 
 -- every stored form has at most 5,120 bytes
 module _ (b : Book) (places : length (b .places) ≡ 512) (form : List ℕ) (room : 5120 ≤ length form) where
@@ -78,6 +80,12 @@ pub answer-is : (present : Bool) (bytes line : List ℕ) {contents : Contents} {
 answer-is present bytes line {contents} {c} {r} e q a =
     a (rw e (valid-found present bytes))
     ∙ (ap (λ (x : Contents). answered x c) (e ∙ file-found present bytes) ∙ ap (answered (contentsOf (fileOf present bytes))) q)
+
+-- a preview is replied about a valid book
+pub reply-valid : (present : Bool) (bytes : List ℕ) (contents : Contents) (c : Command) {r : Answered}
+    → contents ≡ contentsIn present bytes → (ValidContents contents → r ≡ answered contents c) → r .reply ≡ Previewed → Valid (r .book)
+reply-valid present bytes contents c e a =
+    let v : ValidContents contents = rw e (valid-found present bytes) in previewed-valid contents c v (a v)
 
 -- with too little room
 pub obey-short : (file : File) (line reply form : List ℕ) → (length reply < 16384) ⊎ (length form < 5120)

@@ -28,7 +28,7 @@ use Rattle.book_text.specs.declared.answers.State.{State}
 use Rattle.book_text.specs.declared.answers.State.the-variants.{Absent, Broken, Sound}
 use Rattle.book_text.specs.declared.answers.Contents.{Contents}
 use Rattle.book_text.specs.declared.answers.Reply.{Reply}
-use Rattle.book_text.specs.declared.answers.Reply.the-variants.{Opened, Granted, Removed, Circuit, Free, Held}
+use Rattle.book_text.specs.declared.answers.Reply.the-variants.{Opened, Granted, Previewed, Removed, Circuit, Free, Held}
 use Rattle.book_text.specs.declared.answers.Reply.the-variants.{Count, Orders, Refused, BookThere, NoBook, Aside}
 use Rattle.book_text.specs.declared.answers.Answered.{Answered}
 
@@ -104,6 +104,7 @@ holderReply b link colour = holdingBy (heldBy b link colour)
 abbrev pub turnedDown : Book → Reply → Command → Answered
 turnedDown b reply (command.Open n w) = only b reply
 turnedDown b reply (command.Grant x y way colour) = only b reply
+turnedDown b reply command.Preview = only b reply
 turnedDown b reply (command.Remove serial) = only b reply
 turnedDown b reply (command.Show serial) = only b reply
 turnedDown b reply (command.Holder link colour) = only b reply
@@ -115,6 +116,7 @@ turnedDown b reply (command.Aside a) = only b (Aside a)
 abbrev pub answeredNone : Book → Command → Answered
 answeredNone b (command.Open n w) = openingAnswer b n w
 answeredNone b (command.Grant x y way colour) = only b NoBook
+answeredNone b command.Preview = only b NoBook
 answeredNone b (command.Remove serial) = only b NoBook
 answeredNone b (command.Show serial) = only b NoBook
 answeredNone b (command.Holder link colour) = only b NoBook
@@ -126,6 +128,7 @@ answeredNone b (command.Aside a) = only b (Aside a)
 abbrev pub answeredBook : Book → Command → Answered
 answeredBook b (command.Open n w) = only b BookThere
 answeredBook b (command.Grant x y way colour) = grantAnswer b x y way colour
+answeredBook b command.Preview = only b Previewed
 answeredBook b (command.Remove serial) = removeAnswer b serial
 answeredBook b (command.Show serial) = only b (showReply b serial)
 answeredBook b (command.Holder link colour) = only b (holderReply b link colour)

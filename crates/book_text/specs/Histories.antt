@@ -24,6 +24,7 @@ fileAfterAll file (line ∷ lines) = fileAfter (fileAfterAll file lines) line
 abbrev pub called : Command → List Call → List Call
 called (command.Open n w) calls = calls
 called (command.Grant x y way colour) calls = Grant x y way colour ∷ calls
+called command.Preview calls = calls
 called (command.Remove serial) calls = Remove serial ∷ calls
 called (command.Show serial) calls = Show serial ∷ calls
 called (command.Holder link colour) calls = Holder link colour ∷ calls

@@ -1,11 +1,12 @@
 -- What a line says.
-use Prim.Native.Nat.{ℕ, _-_}
+use Prim.Native.Nat.{ℕ, zero, suc, _-_}
 use mathlib.Core.Bool.{Bool, true, false, cond, not, _&&_}
-use mathlib.Core.List.{List, [], _∷_}
+use mathlib.Core.List.{List, [], _∷_, _++_}
 use lib.Dec.{eqb, ltb}
 use lib.ListN.{length, drop, getD}
 use Rattle.ring.specs.Buffers.{sameBytes}
 use Rattle.texts.specs.Fields.{space, lineFeed, field, onField, line, onLine}
+use Rattle.book.specs.declared.bundles.Line.{Line}
 use Rattle.book_text.specs.declared.lines.Command.{Command}
 use Rattle.book_text.specs.declared.lines.Command.the-variants as command
 use Rattle.book_text.specs.declared.lines.Aside.the-variants as aside
@@ -58,6 +59,59 @@ grantOf text =
     onField (field space text) unreadable
     (λ x behind. onField (field space behind) unreadable (λ y rest. onPair (pairOf rest) (λ way colour. command.Grant x y way colour)))
 
+-- the byte that closes a line of a bundle with another behind it
+abbrev pub comma : ℕ
+comma = 44
+
+-- a line of a bundle at the start of a text, and the text behind the byte that closes it
+pub data Asked : Type 0 where
+  broken : Asked
+  asked : Line → List ℕ → Asked
+
+-- `X Y WAY COLOUR`, closed by this byte
+unfoldable pub askedOf : ℕ → List ℕ → Asked
+askedOf close text =
+    onField (field space text) broken
+    (λ x second. onField (field space second) broken
+    (λ y third. onField (field space third) broken
+    (λ way fourth. onField (field close fourth) broken
+    (λ colour rest. asked (record { x = x; y = y; way = way; colour = colour }) rest))))
+
+-- what follows from such a line and the text behind it, and what where there is none
+abbrev pub onAsked : Asked → List Line → (Line → List ℕ → List Line) → List Line
+onAsked broken otherwise next = otherwise
+onAsked (asked l rest) otherwise next = next l rest
+
+-- the text behind a comma: a space there may be left out
+abbrev pub behindComma : List ℕ → List ℕ
+behindComma [] = []
+behindComma (b ∷ text) = cond (eqb b space) text (b ∷ text)
+
+-- the lines of a bundle, so many at the most, behind those before: commas between, the line feed behind the last; else none
+abbrev pub linesFrom : ℕ → List Line → List ℕ → List Line
+linesFrom zero before text = []
+linesFrom (suc most) before text =
+    onAsked (askedOf lineFeed text)
+    (onAsked (askedOf comma text) [] (λ l rest. linesFrom most (before ++ (l ∷ [])) (behindComma rest)))
+    (λ l rest. ended rest (before ++ (l ∷ [])) [])
+
+-- `X Y WAY COLOUR, X Y WAY COLOUR, ..`, behind `preview `; a line of 1,024 bytes has room for fewer than 128 of them
+unfoldable pub bundleOf : List ℕ → List Line
+bundleOf text = linesFrom 128 [] text
+
+-- the lines that are tried by a line of this text
+unfoldable pub linesIn : List ℕ → List Line
+linesIn text = cond (starts (bytes "preview ") text) (bundleOf (drop 8 text)) []
+
+-- the command, if there are lines
+abbrev pub onLines : List Line → Command
+onLines [] = unreadable
+onLines (l ∷ ls) = command.Preview
+
+-- such a text, behind `preview `
+unfoldable pub previewOf : List ℕ → Command
+previewOf text = onLines (bundleOf text)
+
 -- `SERIAL`, behind `remove `
 unfoldable pub removeOf : List ℕ → Command
 removeOf text = onSingle (singleOf text) (λ serial. command.Remove serial)
@@ -82,16 +136,18 @@ commandWithNumbers text =
     (onWord (bytes "remove ") text removeOf
     (onWord (bytes "show ") text showOf
     (onWord (bytes "holder ") text holderOf
-    unreadable))))
+    (onWord (bytes "preview ") text previewOf
+    unreadable)))))
 
--- the command of a line whose spaces are squeezed
+-- the command of a line whose spaces are squeezed; `preview` alone tries no line
 unfoldable pub commandIn : List ℕ → Command
 commandIn text =
     cond (sameBytes text (bytes "\n")) (command.Aside aside.Nothing)
     (cond (sameBytes text (bytes "count\n")) command.Count
     (cond (sameBytes text (bytes "list\n")) command.List
     (cond (sameBytes text (bytes "help\n")) (command.Aside aside.Help)
-    (commandWithNumbers text))))
+    (cond (sameBytes text (bytes "preview\n")) command.Preview
+    (commandWithNumbers text)))))
 
 -- "several spaces count as one", and none at the ends of a line; `begun` says that a word came before, `apart` that spaces came since
 abbrev pub squeezedFrom : Bool → Bool → List ℕ → List ℕ

@@ -9,6 +9,7 @@ abbrev pub needOf : Command → Need
 needOf (command.Open n w) = Writing
 needOf (command.Grant x y way colour) = Writing
 needOf (command.Remove serial) = Writing
+needOf command.Preview = Reading
 needOf (command.Show serial) = Reading
 needOf (command.Holder link colour) = Reading
 needOf command.Count = Reading

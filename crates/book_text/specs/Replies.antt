@@ -11,9 +11,14 @@ use Rattle.texts.specs.Layout.{labelled, wayEnding}
 use Rattle.texts.specs.Grounds.{groundOf}
 use Rattle.book.specs.declared.circuits.Circuit.{Circuit}
 use Rattle.book.specs.declared.books.Book.{Book}
+use Rattle.book.specs.declared.previews.PreviewAnswer.{PreviewAnswer}
+use Rattle.book.specs.declared.previews.PreviewAnswer.the-variants as preview
+use Rattle.book.specs.declared.previews.Previewed.{Previewed}
 use Rattle.book.specs.Books.{liveOf}
+use Rattle.book.specs.Previews.{serialsOf, previewedAll}
 use Rattle.book_text.specs.declared.lines.Aside.{Aside}
 use Rattle.book_text.specs.declared.lines.Aside.the-variants as aside
+use Rattle.book_text.specs.Lines.{linesIn}
 use Rattle.book_text.specs.declared.answers.Reply.{Reply}
 use Rattle.book_text.specs.declared.answers.Reply.the-variants as reply
 
@@ -46,6 +51,26 @@ ordersText b = linesOf (liveOf b)
 unfoldable pub refusedText : Refusal → List ℕ
 refusedText r = labelled (bytes "refused ") (numberOf r) ++ ((space ∷ []) ++ groundOf r)
 
+-- serials, each behind a space
+abbrev pub serialsText : List ℕ → List ℕ
+serialsText [] = []
+serialsText (serial ∷ serials) = labelled (bytes " ") serial ++ serialsText serials
+
+-- `would grant` and the serials, or `none`
+abbrev pub wouldGrant : List ℕ → List ℕ
+wouldGrant [] = bytes "would grant none"
+wouldGrant (serial ∷ serials) = bytes "would grant" ++ serialsText (serial ∷ serials)
+
+-- the same with the line that would be turned down behind it, and its refusal; or the refusal of the whole
+abbrev pub previewLine : PreviewAnswer → List ℕ → List ℕ
+previewLine preview.AllGranted serials = wouldGrant serials ++ (lineFeed ∷ [])
+previewLine (preview.Stopped i r) serials = wouldGrant serials ++ (labelled (bytes ", line ") i ++ ((space ∷ []) ++ refusedText r))
+previewLine (preview.Refused r) serials = refusedText r
+
+-- the line of a preview
+unfoldable pub previewText : Previewed → List ℕ
+previewText p = previewLine (p .answer) (serialsOf p)
+
 -- "what was not understood and the word `help`": the line without its line feed, of a long one the front
 unfoldable pub unreadableText : List ℕ → List ℕ
 unreadableText text =
@@ -56,12 +81,13 @@ unfoldable pub helpText : List ℕ
 helpText =
     bytes "open N W              begins a book for a ring of N nodes and W colours\n"
     ++ (bytes "grant X Y WAY COLOUR  enters a circuit between nodes X and Y, WAY 0 plain or 1 seam, and gives its order a serial\n"
+    ++ (bytes "preview LINE, ..      the serials that up to 16 grants would get, each LINE as X Y WAY COLOUR\n"
     ++ (bytes "remove SERIAL         removes an order\n"
     ++ (bytes "show SERIAL           the circuit of an order: its ends, P (plain) or S (seam), its colour\n"
     ++ (bytes "holder LINK COLOUR    the order that has the colour on the link\n"
     ++ (bytes "count                 how many orders are live, and how many were granted so far\n"
     ++ (bytes "list                  every live order with its circuit\n"
-    ++ bytes "help                  these lines\n"))))))
+    ++ bytes "help                  these lines\n")))))))
 
 -- the answer to a line that asks nothing of the book, as it was heard
 abbrev pub asideText : List ℕ → Aside → List ℕ
@@ -75,6 +101,7 @@ asideText text aside.TooLong = bytes "error a line of more than 1,024 bytes is n
 abbrev pub replyText : List ℕ → Book → Reply → List ℕ
 replyText text b (reply.Opened n w) = twoNumbers (bytes "opened ") n (bytes " ") w
 replyText text b (reply.Granted serial) = oneNumber (bytes "granted ") serial
+replyText text b reply.Previewed = previewText (previewedAll b (linesIn text))
 replyText text b (reply.Removed serial) = oneNumber (bytes "removed ") serial
 replyText text b (reply.Circuit x y way colour) = circuitText (bytes "circuit ") x y way colour
 replyText text b reply.Free = bytes "free\n"

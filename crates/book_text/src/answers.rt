@@ -38,6 +38,7 @@ pub struct Contents {
 pub enum Reply {
     Opened(u16, u16),
     Granted(u16),
+    Previewed,
     Removed(u16),
     Circuit(u16, u16, Way, u16),
     Free,
@@ -173,6 +174,7 @@ fn turn_down(book: Book, reply: Reply, command: Command) -> Answered
     match command {
         Command::Open(_, _) => only(book, reply),
         Command::Grant(_, _, _, _) => only(book, reply),
+        Command::Preview => only(book, reply),
         Command::Remove(_) => only(book, reply),
         Command::Show(_) => only(book, reply),
         Command::Holder(_, _) => only(book, reply),
@@ -189,6 +191,7 @@ fn answer_none(book: Book, command: Command) -> Answered
     match command {
         Command::Open(n, w) => answer_open(book, n, w),
         Command::Grant(_, _, _, _) => only(book, Reply::NoBook),
+        Command::Preview => only(book, Reply::NoBook),
         Command::Remove(_) => only(book, Reply::NoBook),
         Command::Show(_) => only(book, Reply::NoBook),
         Command::Holder(_, _) => only(book, Reply::NoBook),
@@ -204,6 +207,7 @@ fn answer_book(book: Book, command: Command) -> Answered
     match command {
         Command::Open(_, _) => only(book, Reply::BookThere),
         Command::Grant(x, y, way, colour) => answer_grant(book, x, y, way, colour),
+        Command::Preview => only(book, Reply::Previewed),
         Command::Remove(serial) => answer_remove(book, serial),
         Command::Show(serial) => only(book, answer_show(book, serial)),
         Command::Holder(link, colour) => only(book, answer_holder(book, link, colour)),

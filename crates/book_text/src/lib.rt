@@ -1,5 +1,6 @@
 // The book's commands: what a line says, what it does to the file, and the text that answers it.
 pub mod answers;
+pub mod bundles;
 pub mod lines;
 pub mod obeying;
 pub mod replies;

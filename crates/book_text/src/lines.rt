@@ -1,5 +1,7 @@
 // What a line says: a command with its numbers.
+use super::bundles::bundle_at;
 use super::spaces::squeeze;
+use book::Bundle;
 use ring::buffers::same_bytes;
 use texts::fields::FieldAt;
 use texts::fields::LineAt;
@@ -8,12 +10,14 @@ use texts::fields::line;
 ghost use mathlib.Core.Path.{_≡_};
 ghost use Prim.Native.Nat.{_≤_};
 ghost use lib.ListN.{length, take, drop};
-ghost use Rattle.book_text.specs.Lines.{starts, singleOf, pairOf, openOf, grantOf, removeOf, showOf, holderOf};
-ghost use Rattle.book_text.specs.Lines.{commandWithNumbers, commandIn, finished, heard, commandOf};
+ghost use Rattle.book_text.specs.Lines.{starts, singleOf, pairOf, openOf, grantOf, previewOf, removeOf, showOf, holderOf};
+ghost use Rattle.book.specs.Internal.Bundles.{Bundled};
+ghost use Rattle.book_text.specs.Lines.{linesIn, commandWithNumbers, commandIn, finished, heard, commandOf};
 
 pub enum Command {
     Open(u16, u16),
     Grant(u16, u16, u16, u16),
+    Preview,
     Remove(u16),
     Show(u16),
     Holder(u16, u16),
@@ -126,6 +130,18 @@ fn grant_at(text: &[u8], at: usize) -> Command
     Command::Grant(x, y, way, colour)
 }
 
+// The command alone; its lines are read again for the answer.
+fn preview_at(text: &[u8], at: usize) -> Command
+    requires { ⌜ at ≤ length (now text) ⌝ }
+    ensures { λ r. ⌜ r ≡ previewOf (drop at (now (text .entry))) ⌝ }
+{
+    let bundle = bundle_at(text, at);
+    if bundle.count == 0 {
+        return Command::Aside(Aside::Unreadable);
+    }
+    Command::Preview
+}
+
 fn remove_at(text: &[u8], at: usize) -> Command
     requires { ⌜ at ≤ length (now text) ⌝ }
     ensures { λ r. ⌜ r ≡ removeOf (drop at (now (text .entry))) ⌝ }
@@ -178,6 +194,9 @@ fn numbers_in(text: &[u8]) -> Command
     if starts(b"holder ", text) {
         return holder_at(text, 7);
     }
+    if starts(b"preview ", text) {
+        return preview_at(text, 8);
+    }
     Command::Aside(Aside::Unreadable)
 }
 
@@ -197,7 +216,20 @@ fn command_in(text: &[u8]) -> Command
     if same_bytes(text, b"help\n") {
         return Command::Aside(Aside::Help);
     }
+    if same_bytes(text, b"preview\n") {
+        return Command::Preview;
+    }
     numbers_in(text)
+}
+
+// The lines that are tried by a line whose spaces are squeezed.
+pub fn bundle_in(text: &[u8]) -> Bundle
+    ensures { λ r. ⌜ Bundled r (linesIn (now (text .entry))) ⌝ }
+{
+    if starts(b"preview ", text) {
+        return bundle_at(text, 8);
+    }
+    Bundle::blank()
 }
 
 // Whether the line feed that ends a line is there.

@@ -38,6 +38,7 @@ fn need_of_command(command: Command) -> Need
         Command::Open(_, _) => Need::Writing,
         Command::Grant(_, _, _, _) => Need::Writing,
         Command::Remove(_) => Need::Writing,
+        Command::Preview => Need::Reading,
         Command::Show(_) => Need::Reading,
         Command::Holder(_, _) => Need::Reading,
         Command::Count => Need::Reading,

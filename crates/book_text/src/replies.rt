@@ -1,9 +1,14 @@
 // The text that answers a command.
 use super::answers::Reply;
 use super::lines::Aside;
+use super::lines::bundle_in;
 use book::Book;
 use book::Circuit;
 use book::books::live_count;
+use book::preview;
+use book::previews::PreviewAnswer;
+use book::previews::Previewed;
+use book::previews::serial_count;
 use ring::Refusal;
 use ring::Way;
 use ring::refusals::number;
@@ -16,8 +21,11 @@ ghost use mathlib.Core.Path.{_≡_};
 ghost use Prim.Native.Nat.{_+_, _-_, _≤_, min};
 ghost use lib.ListN.{length};
 ghost use Rattle.texts.specs.Internal.Writing.{Wrote};
+ghost use Rattle.book.specs.Books.{Valid};
+ghost use Rattle.book.specs.Previews.{serialsOf, previewedAll};
+ghost use Rattle.book_text.specs.Lines.{linesIn};
 ghost use Rattle.book_text.specs.Replies.{oneNumber, twoNumbers, circuitText, orderText, ordersText};
-ghost use Rattle.book_text.specs.Replies.{refusedText, unreadableText, asideText, replyText};
+ghost use Rattle.book_text.specs.Replies.{refusedText, serialsText, wouldGrant, previewText, unreadableText, asideText, replyText};
 
 // A word and a number, on a line.
 fn put_one(out: &mut [u8], at: usize, word: &[u8], n: u16) -> usize
@@ -83,13 +91,73 @@ fn put_orders(out: &mut [u8], book: Book) -> usize
 }
 
 // A refusal's number, and its ground.
-fn put_refused(out: &mut [u8], refusal: Refusal) -> usize
-    requires { ⌜ 16384 ≤ length (now out) ⌝ }
-    ensures { λ next. ⌜ Wrote (now (out .entry)) 0 (refusedText refusal) (now (out .exit)) next ⌝ }
+fn put_refused(out: &mut [u8], at: usize, refusal: Refusal) -> usize
+    requires { ⌜ at + 174 ≤ length (now out) ⌝ }
+    ensures { λ next. ⌜ Wrote (now (out .entry)) at (refusedText refusal) (now (out .exit)) next ⌝ }
 {
-    let first = put_labelled(out, 0, b"refused ", number(refusal));
+    let first = put_labelled(out, at, b"refused ", number(refusal));
     let next = put_byte(out, first, b' ');
     put_ground(out, next, refusal)
+}
+
+// The serials that lines would get, each behind a space.
+fn put_serials(out: &mut [u8], at: usize, preview: Previewed) -> usize
+    requires { ⌜ at + 96 ≤ length (now out) ⌝ }
+    ensures { λ next. ⌜ Wrote (now (out .entry)) at (serialsText (serialsOf preview)) (now (out .exit)) next ⌝ }
+{
+    let count = serial_count(preview);
+    let mut next = at;
+    let mut done: usize = 0;
+    while done < count {
+        next = put_labelled(out, next, b" ", preview.serials[done]);
+        done += 1;
+    }
+    next
+}
+
+// What the lines would get: their serials, or that there are none.
+fn put_would_grant(out: &mut [u8], preview: Previewed) -> usize
+    requires { ⌜ 16384 ≤ length (now out) ⌝ }
+    ensures short { λ next. ⌜ next ≤ 107 ⌝ }
+    ensures wrote { λ next. ⌜ Wrote (now (out .entry)) 0 (wouldGrant (serialsOf preview)) (now (out .exit)) next ⌝ }
+{
+    if serial_count(preview) == 0 {
+        return put(out, 0, b"would grant none");
+    }
+    let next = put(out, 0, b"would grant");
+    put_serials(out, next, preview)
+}
+
+// The line of a preview.
+fn put_preview(out: &mut [u8], preview: Previewed) -> usize
+    requires { ⌜ 16384 ≤ length (now out) ⌝ }
+    ensures { λ next. ⌜ Wrote (now (out .entry)) 0 (previewText preview) (now (out .exit)) next ⌝ }
+{
+    let answer = preview.answer;
+    match answer {
+        PreviewAnswer::AllGranted => {
+            let next = put_would_grant(out, preview);
+            put_byte(out, next, b'\n')
+        }
+        PreviewAnswer::Stopped(line, refusal) => {
+            let first = put_would_grant(out, preview);
+            let second = put_labelled(out, first, b", line ", line);
+            let next = put_byte(out, second, b' ');
+            put_refused(out, next, refusal)
+        }
+        PreviewAnswer::Refused(refusal) => put_refused(out, 0, refusal),
+    }
+}
+
+// The preview of the lines that a text lists.
+fn put_tried(out: &mut [u8], text: &[u8], book: Book) -> usize
+    requires { ⌜ (16384 ≤ length (now out)) × Valid book ⌝ }
+    ensures { λ next. ⌜ Wrote (now (out .entry)) 0 (previewText (previewedAll book (linesIn (now (text .entry)))))
+        (now (out .exit)) next ⌝ }
+{
+    let bundle = bundle_in(text);
+    let tried = preview(book, bundle);
+    put_preview(out, tried)
 }
 
 // How much of a line is repeated: not its line feed, and of a long line the front.
@@ -125,6 +193,7 @@ fn put_aside(out: &mut [u8], aside: Aside, text: &[u8]) -> usize
             0,
             b"open N W              begins a book for a ring of N nodes and W colours\n\
 grant X Y WAY COLOUR  enters a circuit between nodes X and Y, WAY 0 plain or 1 seam, and gives its order a serial\n\
+preview LINE, ..      the serials that up to 16 grants would get, each LINE as X Y WAY COLOUR\n\
 remove SERIAL         removes an order\n\
 show SERIAL           the circuit of an order: its ends, P (plain) or S (seam), its colour\n\
 holder LINK COLOUR    the order that has the colour on the link\n\
@@ -149,19 +218,20 @@ help                  these lines\n",
 
 // The text of a reply.
 pub fn put_reply(out: &mut [u8], reply: Reply, text: &[u8], book: Book) -> usize
-    requires { ⌜ 16384 ≤ length (now out) ⌝ }
+    requires { ⌜ (16384 ≤ length (now out)) × (reply ≡ Reply.Previewed → Valid book) ⌝ }
     ensures { λ next. ⌜ Wrote (now (out .entry)) 0 (replyText (now (text .entry)) book reply) (now (out .exit)) next ⌝ }
 {
     match reply {
         Reply::Opened(n, w) => put_two(out, b"opened ", n, b" ", w),
         Reply::Granted(serial) => put_one(out, 0, b"granted ", serial),
+        Reply::Previewed => put_tried(out, text, book),
         Reply::Removed(serial) => put_one(out, 0, b"removed ", serial),
         Reply::Circuit(a, b, way, colour) => put_circuit(out, 0, b"circuit ", a, b, way, colour),
         Reply::Free => put(out, 0, b"free\n"),
         Reply::Held(serial) => put_one(out, 0, b"held ", serial),
         Reply::Count(live, grants) => put_two(out, b"live ", live, b" grants ", grants),
         Reply::Orders => put_orders(out, book),
-        Reply::Refused(refusal) => put_refused(out, refusal),
+        Reply::Refused(refusal) => put_refused(out, 0, refusal),
         Reply::BookThere => put(out, 0, b"error there is a book in the file already\n"),
         Reply::NoBook => put(
             out,

@@ -18,6 +18,7 @@ use Rattle.book.specs.declared.removals.Removed.{Removed}
 use Rattle.book.specs.Books.{Valid, bookOf, openUnless, opened, openInNumbers}
 use Rattle.book.specs.Grants.{circuitOf, grantVerdict, grantUnless, granted, grantInNumbers}
 use Rattle.book.specs.Orders.{lookup, missing, shown, showInNumbers}
+use Rattle.book.specs.Previews.{previewedAll, previewInNumbers}
 use Rattle.book.specs.Removals.{removeFound, removed, removeInNumbers}
 use Rattle.book.specs.Holders.{heldBy, holderInNumbers}
 use Rattle.book.specs.History.{Call, Grant, Remove, Show, Holder, after, run}
@@ -29,7 +30,7 @@ use Rattle.stored.specs.Forms.{storedForm}
 use Rattle.stored.proofs.Promised.{loads-only-forms}
 use Rattle.export.specs.Outcomes.{Outcome}
 use Rattle.export.specs.BookCalls.{front, refusing, storing, changing, grantOn, removeOn, openCall, grantCall, removeCall, showCall}
-use Rattle.export.specs.BookCalls.{holderCall}
+use Rattle.export.specs.BookCalls.{holderCall, linesOfEntries, previewCall}
 use Rattle.export.specs.Histories.{Kept, keptBy, answerOf, keptAfter, keptRun, withRoom, openedIn, CallHistories}
 use Rattle.export.proofs.Keeping.{Holds, held-valid, changed-held, asked-held, bookAfter, Stores, no-room, whole, stores}
 use Rattle.export.proofs.Keeping.{whole-holds, storing-holds, refusing-holds}
@@ -123,7 +124,7 @@ opens-book n w buffer = go (ringVerdict n w) refl
         absurd (omega (arith, line-of r refl .0, ap (λ (o : Outcome). o .answer .number) o))
 
 pub call-histories : CallHistories
-unfolding grantCall removeCall showCall holderCall
+unfolding grantCall removeCall showCall holderCall previewCall
 call-histories n w buffer accepted calls =
     let opens = opens-book n w buffer accepted in
     let kept = keptRun (openedIn n w buffer) calls in
@@ -142,4 +143,5 @@ call-histories n w buffer accepted calls =
       removals = λ serial. ap (λ (o : Outcome). o .answer) (changed-held kept b held (λ (d : Book). removeOn d serial (kept .buffer)));
       shows = λ serial. asked-held kept b held (λ (d : Book). showInNumbers (shown d serial));
       holders = λ link colour. asked-held kept b held (λ (d : Book). holderInNumbers (heldBy d link colour));
+      previews = λ entries. asked-held kept b held (λ (d : Book). previewInNumbers (previewedAll d (linesOfEntries entries)));
     }

@@ -1,13 +1,15 @@
 -- The calls on a book: each loads it, acts, and stores it again if it may have changed.
-use Prim.Native.Nat.{ℕ}
+use Prim.Native.Nat.{ℕ, _+_, _%_}
 use mathlib.Core.Bool.{cond}
-use mathlib.Core.List.{List, _++_}
-use lib.Dec.{ltb}
-use lib.ListN.{length, take}
+use mathlib.Core.List.{List, [], _∷_, _++_}
+use lib.Dec.{eqb, ltb}
+use lib.ListN.{length, take, getD}
 use Rattle.ring.specs.Answers.{InNumbers, gives}
 use Rattle.book.specs.declared.books.Book.{Book}
+use Rattle.book.specs.declared.bundles.Line.{Line}
 use Rattle.book.specs.Books.{opened, openInNumbers}
 use Rattle.book.specs.Grants.{granted, grantInNumbers}
+use Rattle.book.specs.Previews.{previewedAll, previewInNumbers}
 use Rattle.book.specs.Removals.{removed, removeInNumbers}
 use Rattle.book.specs.Orders.{shown, showInNumbers}
 use Rattle.book.specs.Holders.{heldBy, holderInNumbers}
@@ -73,3 +75,24 @@ showCall bytes serial = askedOf bytes (λ (b : Book). showInNumbers (shown b ser
 -- load, ask for the holder
 unfoldable pub holderCall : List ℕ → ℕ → ℕ → InNumbers
 holderCall bytes link colour = askedOf bytes (λ (b : Book). holderInNumbers (heldBy b link colour))
+
+-- the line whose four numbers stand from an entry on
+abbrev pub lineAt : List ℕ → ℕ → Line
+lineAt entries i =
+    record { x = getD entries i 0; y = getD entries (i + 1) 0; way = getD entries (i + 2) 0; colour = getD entries (i + 3) 0 }
+
+-- the lines of entries, four to a line
+abbrev pub fours : List ℕ → List Line
+fours (x ∷ y ∷ way ∷ colour ∷ rest) = record { x = x; y = y; way = way; colour = colour } ∷ fours rest
+fours (x ∷ y ∷ way ∷ []) = []
+fours (x ∷ y ∷ []) = []
+fours (x ∷ []) = []
+fours [] = []
+
+-- a number of entries that is no multiple of four lists no line
+unfoldable pub linesOfEntries : List ℕ → List Line
+linesOfEntries entries = cond (eqb (length entries % 4) 0) (fours entries) []
+
+-- load, preview: how many serials, the line and the number of its refusal or 65,535 and 0, the serials
+unfoldable pub previewCall : List ℕ → List ℕ → InNumbers
+previewCall bytes entries = askedOf bytes (λ (b : Book). previewInNumbers (previewedAll b (linesOfEntries entries)))

@@ -10,6 +10,7 @@ use Rattle.ring.specs.declared.refusals.Refusal.the-variants.{StoredLength}
 use Rattle.book.specs.declared.books.Book.{Book}
 use Rattle.book.specs.Books.{opened}
 use Rattle.book.specs.Orders.{shown, showInNumbers}
+use Rattle.book.specs.Previews.{previewedAll, previewInNumbers}
 use Rattle.book.specs.Holders.{heldBy, holderInNumbers}
 use Rattle.book.specs.History.{Call, Grant, Remove, Show, Holder, run}
 use Rattle.stored.specs.declared.loads.LoadAnswer.the-variants as load
@@ -17,6 +18,7 @@ use Rattle.stored.specs.Loading.{loaded}
 use Rattle.stored.specs.Histories.{StoredAfter}
 use Rattle.export.specs.Outcomes.{Outcome, onSuccess}
 use Rattle.export.specs.BookCalls.{front, grantOn, removeOn, openCall, grantCall, removeCall, showCall, holderCall}
+use Rattle.export.specs.BookCalls.{linesOfEntries, previewCall}
 
 -- a change whose result is not 0 leaves the buffer as it is
 pub record RefusedLeaves : Type 0 where
@@ -77,6 +79,9 @@ pub record KeptAfter (n w : ℕ) (calls : List Call) (kept : Kept) : Type 0 wher
   pub removals : (serial : ℕ) → answerOf kept (Remove serial) ≡ removeOn (run (opened n w .book) calls) serial (kept .buffer) .answer
   pub shows : (serial : ℕ) → answerOf kept (Show serial) ≡ showInNumbers (shown (run (opened n w .book) calls) serial)
   pub holders : (link colour : ℕ) → answerOf kept (Holder link colour) ≡ holderInNumbers (heldBy (run (opened n w .book) calls) link colour)
+  pub previews : (entries : List ℕ)
+      → previewCall (front (kept .size) (kept .buffer)) entries
+      ≡ previewInNumbers (previewedAll (run (opened n w .book) calls) (linesOfEntries entries))
 
 -- it is so after every list of calls from an accepted opening, those that 17 refused left out
 abbrev pub CallHistories : Type 0

@@ -26,6 +26,7 @@ pub enum Refusal {
     BlockCheck,
     StoredForm,
     TextForm,
+    LineCount,
 }
 
 // Whether a ground is there: the first one in the order of the rules, or none.
@@ -89,6 +90,7 @@ pub fn number(refusal: Refusal) -> u16
         Refusal::BlockCheck => 19,
         Refusal::StoredForm => 20,
         Refusal::TextForm => 21,
+        Refusal::LineCount => 22,
     }
 }
 
@@ -120,5 +122,6 @@ pub fn carried_by(refusal: Refusal) -> Carried
         Refusal::BlockCheck => Carried::None,
         Refusal::StoredForm => Carried::None,
         Refusal::TextForm => Carried::None,
+        Refusal::LineCount => Carried::None,
     }
 }

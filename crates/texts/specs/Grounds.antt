@@ -6,7 +6,7 @@ use Rattle.ring.specs.declared.refusals.Refusal.the-variants.{NodeCount, Colour
 use Rattle.ring.specs.declared.refusals.Refusal.the-variants.{TableShort, FateNumber, Conflict, CircuitEnd, CircuitEndsEqual, WayNumber}
 use Rattle.ring.specs.declared.refusals.Refusal.the-variants.{ColourNumber, ColourHeld, BookFull, SerialsUsedUp, SerialNeverGiven}
 use Rattle.ring.specs.declared.refusals.Refusal.the-variants.{SerialRemoved, LinkNumber, BufferShort, StoredLength, BlockCheck, StoredForm}
-use Rattle.ring.specs.declared.refusals.Refusal.the-variants.{TextForm}
+use Rattle.ring.specs.declared.refusals.Refusal.the-variants.{TextForm, LineCount}
 use Rattle.texts.specs.Bytes.{bytes}
 
 -- the ground's words, to the end of the line
@@ -36,3 +36,4 @@ groundOf StoredForm =
     bytes "a record with fate number 0, or anything else that breaks the stored form, "
     ++ bytes "a limit, the rising serials from 1 up to the grants so far, or feasibility\n"
 groundOf TextForm = bytes "more than 8,192 bytes, or a text not of the stated form\n"
+groundOf LineCount = bytes "no line or more than 16\n"

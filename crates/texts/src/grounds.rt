@@ -9,7 +9,7 @@ ghost use Rattle.texts.specs.Grounds.{groundOf};
 ghost use Rattle.texts.specs.Internal.Writing.{Wrote};
 
 // The lines of the grounds, in the order of their numbers from 1.
-const GROUNDS: [u8; 742] = *b"n not 3 to 256\n\
+const GROUNDS: [u8; 766] = *b"n not 3 to 256\n\
 w not 1 to 128\n\
 more than 512 requests, or an odd number of ends\n\
 an end is n or more\n\
@@ -29,10 +29,11 @@ buffer shorter than the length\n\
 length 0, not a multiple of 512, or above 5,120\n\
 a wrong block number or check\n\
 a record with fate number 0, or anything else that breaks the stored form, a limit, the rising serials from 1 up to the grants so far, or feasibility\n\
-more than 8,192 bytes, or a text not of the stated form\n";
+more than 8,192 bytes, or a text not of the stated form\n\
+no line or more than 16\n";
 
 // The position behind the line of each ground.
-const ENDS: [u16; 22] = [
+const ENDS: [u16; 23] = [
     0,
     15,
     30,
@@ -55,6 +56,7 @@ const ENDS: [u16; 22] = [
     536,
     686,
     742,
+    766,
 ];
 
 // A ground in words, to the end of its line.

@@ -1,12 +1,12 @@
 //! A naive desk: what the program is to answer, and what its file is to hold.
 use ring_planner::{Circuit, Refusal, Way};
 
-use crate::reference::books::NaiveBook;
-use crate::reference::draws::{draw, draw_grant, draw_serial};
+use crate::reference::books::{NaiveBook, Previewed};
+use crate::reference::draws::{draw, draw_bundle, draw_grant, draw_serial};
 use crate::reference::stored::{encode, load};
 use crate::reference::Random;
 
-/// The commands, with how many numbers each has.
+/// The commands, with how many numbers each has; `preview` has four for each line.
 const COMMANDS: [(&str, usize); 8] = [
     ("open", 2),
     ("grant", 4),
@@ -22,6 +22,7 @@ const COMMANDS: [(&str, usize); 8] = [
 pub const HELP: &str = "\
 open N W              begins a book for a ring of N nodes and W colours
 grant X Y WAY COLOUR  enters a circuit between nodes X and Y, WAY 0 plain or 1 seam, and gives its order a serial
+preview LINE, ..      the serials that up to 16 grants would get, each LINE as X Y WAY COLOUR
 remove SERIAL         removes an order
 show SERIAL           the circuit of an order: its ends, P (plain) or S (seam), its colour
 holder LINK COLOUR    the order that has the colour on the link
@@ -55,6 +56,27 @@ fn numbers(words: &[&str]) -> Option<Vec<u16>> {
         .iter()
         .map(|word| Some(word).filter(|w| digits(w))?.parse().ok())
         .collect()
+}
+
+/// The numbers of a bundle, if its lines are four numbers each, a comma between them and behind it one space or none.
+fn bundle(text: &str) -> Option<Vec<u16>> {
+    if text.is_empty() {
+        return Some(Vec::new());
+    }
+    let mut all = Vec::new();
+    for line in text.split(',') {
+        let words: Vec<&str> = line.strip_prefix(' ').unwrap_or(line).split(' ').collect();
+        all.extend(numbers(&words).filter(|four| four.len() == 4)?);
+    }
+    Some(all)
+}
+
+/// The numbers of a command, if the words behind its name are as it has them.
+fn numbers_of(command: &str, words: &[&str]) -> Option<Vec<u16>> {
+    match command {
+        "preview" => bundle(&words.join(" ")),
+        _ => numbers(words).filter(|found| COMMANDS.contains(&(command, found.len()))),
+    }
 }
 
 pub fn refused(number: u16) -> String {
@@ -108,12 +130,9 @@ impl NaiveDesk {
         let Some(&first) = words.first() else {
             return String::new();
         };
-        let Some(numbers) = numbers(&words[1..]) else {
+        let Some(numbers) = numbers_of(first, &words[1..]) else {
             return not_understood(text);
         };
-        if !COMMANDS.contains(&(first, numbers.len())) {
-            return not_understood(text);
-        }
         match (first, &mut self.0) {
             ("help", _) => HELP.to_string(),
             ("open", None) => self.open(numbers[0], numbers[1]),
@@ -143,12 +162,25 @@ fn shown(c: &Circuit) -> String {
     format!("{} {} {way} {}\n", c.a, c.b, c.colour)
 }
 
+/// A preview as it is printed.
+fn previewed((serials, stop): Previewed) -> String {
+    let granted = match serials.is_empty() {
+        true => " none".to_string(),
+        false => serials.iter().map(|serial| format!(" {serial}")).collect(),
+    };
+    match stop {
+        None => format!("would grant{granted}\n"),
+        Some((line, number)) => format!("would grant{granted}, line {line} {}", refused(number)),
+    }
+}
+
 /// The answer to a command on a book, or the refusal's number.
 fn answer_on(book: &mut NaiveBook, command: &str, numbers: &[u16]) -> Result<String, u16> {
     Ok(match (command, numbers) {
         ("grant", &[x, y, way, colour]) => {
             format!("granted {}\n", book.grant([x, y], way, colour)?)
         }
+        ("preview", lines) => previewed(book.preview(lines.as_chunks().0)?),
         ("holder", &[link, colour]) => match book.holder(link, colour)? {
             Some(serial) => format!("held {serial}\n"),
             None => "free\n".to_string(),
@@ -166,6 +198,15 @@ fn answer_on(book: &mut NaiveBook, command: &str, numbers: &[u16]) -> Result<Str
     })
 }
 
+/// A bundle as it is typed, with this between its lines.
+pub fn typed(lines: &[[u16; 4]], between: &str) -> String {
+    let words: Vec<String> = lines
+        .iter()
+        .map(|line| line.map(|k| k.to_string()).join(" "))
+        .collect();
+    format!("preview {}", words.join(between))
+}
+
 /// A line of a random session.
 pub fn draw_line(random: &mut Random, desk: &NaiveDesk) -> String {
     let Some(book) = &desk.0 else {
@@ -176,7 +217,11 @@ pub fn draw_line(random: &mut Random, desk: &NaiveDesk) -> String {
         0 => format!("open {} {}", draw(random, 256), draw(random, 128)),
         1 => ["count", "list", "help", ""][random.below(4) as usize].to_string(),
         2 => format!("show  {serial} "),
-        3 | 4 => format!("holder {} {}", draw(random, book.n), draw(random, book.w)),
+        3 => format!("holder {} {}", draw(random, book.n), draw(random, book.w)),
+        4 => typed(
+            &draw_bundle(random, book.n, book.w),
+            [",", ", "][random.below(2) as usize],
+        ),
         5..=7 => format!("remove {serial}"),
         _ => {
             let ([x, y], way, colour) = draw_grant(random, book.n, book.w);
@@ -186,17 +231,7 @@ pub fn draw_line(random: &mut Random, desk: &NaiveDesk) -> String {
     let mut bytes = line.into_bytes();
     if !bytes.is_empty() && random.below(40) == 0 {
         let at = random.below(bytes.len() as u64) as usize;
-        bytes[at] = b"09 xG-"[random.below(6) as usize];
+        bytes[at] = b"09 xG-,"[random.below(7) as usize];
     }
     String::from_utf8(bytes).unwrap() + "\n"
-}
-
-/// A book of 256 nodes with circuits of one link each.
-pub fn many(live: u16, grants: u16) -> NaiveBook {
-    let mut book = NaiveBook::open(256, 4).unwrap();
-    for i in 0..live {
-        book.grant([i % 255, i % 255 + 1], 0, i / 255).unwrap();
-    }
-    book.grants = grants;
-    book
 }

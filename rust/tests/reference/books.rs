@@ -11,6 +11,9 @@ pub struct NaiveBook {
     pub live: BTreeMap<u16, Circuit>,
 }
 
+/// What a preview says: the serials, and the line that would be turned down with the number of its refusal.
+pub type Previewed = (Vec<u16>, Option<(usize, u16)>);
+
 /// Whether the circuit's way uses a link.
 pub fn uses(circuit: &Circuit, link: u16) -> bool {
     let plain = circuit.a <= link && link < circuit.b;
@@ -76,6 +79,22 @@ impl NaiveBook {
         Ok(self.grants)
     }
 
+    /// The grants one after another on a copy, up to the first that is refused. A line is x, y, way and colour.
+    pub fn preview(&self, lines: &[[u16; 4]]) -> Result<Previewed, u16> {
+        if lines.is_empty() || lines.len() > 16 {
+            return Err(22);
+        }
+        let mut copy = self.clone();
+        let mut serials = Vec::new();
+        for (i, &[x, y, way, colour]) in lines.iter().enumerate() {
+            match copy.grant([x, y], way, colour) {
+                Ok(serial) => serials.push(serial),
+                Err(number) => return Ok((serials, Some((i, number)))),
+            }
+        }
+        Ok((serials, None))
+    }
+
     pub fn show(&self, serial: u16) -> Result<Circuit, u16> {
         if serial == 0 || serial > self.grants {
             return Err(14);
@@ -103,4 +122,14 @@ impl NaiveBook {
             .find(|(_, c)| holds(c))
             .map(|(&serial, _)| serial))
     }
+}
+
+/// A book of 256 nodes with circuits of one link each.
+pub fn many(live: u16, grants: u16) -> NaiveBook {
+    let mut book = NaiveBook::open(256, 4).unwrap();
+    for i in 0..live {
+        book.grant([i % 255, i % 255 + 1], 0, i / 255).unwrap();
+    }
+    book.grants = grants;
+    book
 }

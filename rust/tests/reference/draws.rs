@@ -36,6 +36,15 @@ pub fn draw_grant(random: &mut Random, n: u16, w: u16) -> ([u16; 2], u16, u16) {
     )
 }
 
+/// The lines of a bundle, 0 to 17 of them.
+pub fn draw_bundle(random: &mut Random, n: u16, w: u16) -> Vec<[u16; 4]> {
+    let line = |random: &mut Random| {
+        let ([x, y], way, colour) = draw_grant(random, n, w);
+        [x, y, way, colour]
+    };
+    (0..random.below(18)).map(|_| line(random)).collect()
+}
+
 /// A serial, most often one that is live.
 pub fn draw_serial(random: &mut Random, naive: &NaiveBook) -> u16 {
     match random.below(8) {

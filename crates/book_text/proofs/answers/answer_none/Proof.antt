@@ -46,11 +46,17 @@ enum-told-6 c = search needs
 only-requires-6 : tie.Need-only-requires-6
 only-requires-6 c κs = search needs
 
-enum-known-command-2 : tie.Need-enum-known-command-2
-enum-known-command-2 c = search needs
+enum-told-7 : tie.Need-enum-told-7
+enum-told-7 c = search needs
 
 only-requires-7 : tie.Need-only-requires-7
 only-requires-7 c κs = search needs
+
+enum-known-command-2 : tie.Need-enum-known-command-2
+enum-known-command-2 c = search needs
+
+only-requires-8 : tie.Need-only-requires-8
+only-requires-8 c κs = search needs
 
 returns : tie.Need-returns
 returns c =
@@ -77,10 +83,13 @@ returns-7 : tie.Need-returns-7
 returns-7 c = c .only6 .ensures ∙ ap (answeredNone (c .before .before .before .args .book)) (sym (c .before .enum-told6 .given .1))
 
 returns-8 : tie.Need-returns-8
-returns-8 c =
+returns-8 c = c .only7 .ensures ∙ ap (answeredNone (c .before .before .before .args .book)) (sym (c .before .enum-told7 .given .1))
+
+returns-9 : tie.Need-returns-9
+returns-9 c =
     let command2 = c .before .before in
     let start = command2 .before .before in
-    c .only7 .ensures ∙ ap (answeredNone (start .args .book)) (sym (command2 .command2 .given .1))
+    c .only8 .ensures ∙ ap (answeredNone (start .args .book)) (sym (command2 .command2 .given .1))
 
 pub answer-none-spec : {M : Type 1} → statement M
 answer-none-spec =
@@ -100,8 +109,10 @@ answer-none-spec =
     only-requires-5
     enum-told-6
     only-requires-6
-    enum-known-command-2
+    enum-told-7
     only-requires-7
+    enum-known-command-2
+    only-requires-8
     returns
     returns-2
     returns-3
@@ -109,4 +120,5 @@ answer-none-spec =
     returns-5
     returns-6
     returns-7
-    returns-8)
+    returns-8
+    returns-9)

@@ -46,11 +46,17 @@ enum-told-7 c = search needs
 only-requires-7 : tie.Need-only-requires-7
 only-requires-7 c κs = search needs
 
-enum-known-command : tie.Need-enum-known-command
-enum-known-command c = search needs
+enum-told-8 : tie.Need-enum-told-8
+enum-told-8 c = search needs
 
 only-requires-8 : tie.Need-only-requires-8
 only-requires-8 c κs = search needs
+
+enum-known-command : tie.Need-enum-known-command
+enum-known-command c = search needs
+
+only-requires-9 : tie.Need-only-requires-9
+only-requires-9 c κs = search needs
 
 returns : tie.Need-returns
 returns c =
@@ -96,9 +102,15 @@ returns-7 c =
 
 returns-8 : tie.Need-returns-8
 returns-8 c =
+    let told8 = c .before in
+    let start = told8 .before .before in
+    c .only8 .ensures ∙ ap (turnedDown (start .args .book) (start .args .reply)) (sym (told8 .enum-told8 .given .1))
+
+returns-9 : tie.Need-returns-9
+returns-9 c =
     let command = c .before .before in
     let start = command .before .before in
-    c .only8 .ensures ∙ ap (turnedDown (start .args .book) (start .args .reply)) (sym (command .command .given .1))
+    c .only9 .ensures ∙ ap (turnedDown (start .args .book) (start .args .reply)) (sym (command .command .given .1))
 
 pub turn-down-spec : {M : Type 1} → statement M
 turn-down-spec =
@@ -118,8 +130,10 @@ turn-down-spec =
     only-requires-6
     enum-told-7
     only-requires-7
-    enum-known-command
+    enum-told-8
     only-requires-8
+    enum-known-command
+    only-requires-9
     returns
     returns-2
     returns-3
@@ -127,4 +141,5 @@ turn-down-spec =
     returns-5
     returns-6
     returns-7
-    returns-8)
+    returns-8
+    returns-9)

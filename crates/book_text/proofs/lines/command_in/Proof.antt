@@ -74,13 +74,16 @@ returns-4 c =
     )
     refl
 
-numbers-in-requires : tie.Need-numbers-in-requires
-numbers-in-requires c κs = search needs
+slice-aggregate-same-bytes-5 : tie.Need-slice-aggregate-same-bytes-5
+slice-aggregate-same-bytes-5 c = search needs
+
+same-bytes-requires-5 : tie.Need-same-bytes-requires-5
+same-bytes-requires-5 c κs = search needs
 
 returns-5 : tie.Need-returns-5
 unfolding commandIn
 returns-5 c =
-    let test4 = c .before in
+    let test4 = c .before .before .before in
     let test3 = test4 .before .before .before in
     let test2 = test3 .before .before .before in
     let test1 = test2 .before .before .before in
@@ -93,6 +96,33 @@ returns-5 c =
       test3 .if3 .left,
       ← test4 .before .same-bytes4 .ensures,
       test4 .if4 .left,
+      ← c .before .same-bytes5 .ensures,
+      c .if5 .taken,
+    )
+    refl
+
+numbers-in-requires : tie.Need-numbers-in-requires
+numbers-in-requires c κs = search needs
+
+returns-6 : tie.Need-returns-6
+unfolding commandIn
+returns-6 c =
+    let test5 = c .before in
+    let test4 = test5 .before .before .before in
+    let test3 = test4 .before .before .before in
+    let test2 = test3 .before .before .before in
+    let test1 = test2 .before .before .before in
+    rw (
+      ← test1 .before .same-bytes .ensures,
+      test1 .if1 .left,
+      ← test2 .before .same-bytes2 .ensures,
+      test2 .if2 .left,
+      ← test3 .before .same-bytes3 .ensures,
+      test3 .if3 .left,
+      ← test4 .before .same-bytes4 .ensures,
+      test4 .if4 .left,
+      ← test5 .before .same-bytes5 .ensures,
+      test5 .if5 .left,
     )
     (c .numbers-in .ensures)
 
@@ -112,5 +142,8 @@ command-in-spec =
     slice-aggregate-same-bytes-4
     same-bytes-requires-4
     returns-4
+    slice-aggregate-same-bytes-5
+    same-bytes-requires-5
+    returns-5
     numbers-in-requires
-    returns-5)
+    returns-6)

@@ -134,10 +134,24 @@ returns-5 c =
     )
     (c .holder-at .ensures)
 
+slice-aggregate-starts-6 : tie.Need-slice-aggregate-starts-6
+slice-aggregate-starts-6 c = search needs
+
+starts-requires-6 : tie.Need-starts-requires-6
+starts-requires-6 c κs = search needs
+
+preview-at-requires : tie.Need-preview-at-requires
+preview-at-requires c κs =
+    let test4 = c .before .before .before .before .before .before in
+    let start = test4 .before .before .before .before .before .before .before .before .before .before .before .before .before in
+    starts-room (bytes "preview ") (start .args .text .now) (sym (c .if6 .taken) ∙ c .before .starts6 .ensures)
+
 returns-6 : tie.Need-returns-6
 unfolding commandWithNumbers
 returns-6 c =
-    let test4 = c .before .before .before in
+    let test6 = c .before in
+    let test5 = test6 .before .before .before in
+    let test4 = test5 .before .before .before in
     let test3 = test4 .before .before .before in
     let test2 = test3 .before .before .before in
     let test1 = test2 .before .before .before in
@@ -150,8 +164,34 @@ returns-6 c =
       test3 .if3 .left,
       ← test4 .before .starts4 .ensures,
       test4 .if4 .left,
-      ← c .before .starts5 .ensures,
-      c .if5 .left,
+      ← test5 .before .starts5 .ensures,
+      test5 .if5 .left,
+      ← test6 .before .starts6 .ensures,
+      test6 .if6 .taken,
+    )
+    (c .preview-at .ensures)
+
+returns-7 : tie.Need-returns-7
+unfolding commandWithNumbers
+returns-7 c =
+    let test5 = c .before .before .before in
+    let test4 = test5 .before .before .before in
+    let test3 = test4 .before .before .before in
+    let test2 = test3 .before .before .before in
+    let test1 = test2 .before .before .before in
+    rw (
+      ← test1 .before .starts .ensures,
+      test1 .if1 .left,
+      ← test2 .before .starts2 .ensures,
+      test2 .if2 .left,
+      ← test3 .before .starts3 .ensures,
+      test3 .if3 .left,
+      ← test4 .before .starts4 .ensures,
+      test4 .if4 .left,
+      ← test5 .before .starts5 .ensures,
+      test5 .if5 .left,
+      ← c .before .starts6 .ensures,
+      c .if6 .left,
     )
     refl
 
@@ -179,4 +219,8 @@ numbers-in-spec =
     starts-requires-5
     holder-at-requires
     returns-5
-    returns-6)
+    slice-aggregate-starts-6
+    starts-requires-6
+    preview-at-requires
+    returns-6
+    returns-7)

@@ -1,9 +1,10 @@
 use mathlib.Core.Path.{sym}
 use mathlib.Core.Logic.{inl, inr, ⊎-elim}
+use native.Mathlib.Omega.{arith}
 use borrow.Author.Tests.{ltb-true, ltb-false}
 use lib.Seq.{length-take-le}
 use Rattle.book_text.specs.Promises.{fileOf}
-use Rattle.book_text.proofs.ObeyLaws.{answer-is, obey-short, obey-stored, obey-left}
+use Rattle.book_text.proofs.ObeyLaws.{answer-is, reply-valid, obey-short, obey-stored, obey-left}
 use borrow.Author.Needs.{needs}
 use Rattle.book_text.proofs.obeying.obey.Statement.{statement}
 use Rattle.book_text.proofs.obeying.obey.Tie as tie
@@ -35,7 +36,14 @@ slice-aggregate-put-reply : tie.Need-slice-aggregate-put-reply
 slice-aggregate-put-reply c = sym (length-take-le _ _ (c .before .before .before .before .before .before .read .ensures .0))
 
 put-reply-requires : tie.Need-put-reply-requires
-put-reply-requires c κs = search needs
+put-reply-requires c κs =
+    let answer = c .before .before .before in
+    let find = answer .before in
+    let read = find .before .before in
+    let test2 = read .before .before in
+    let start = test2 .before .before .before .before .before .before in
+    let s = start .args in
+    (omega arith, reply-valid (s .present) (s .bytes .now) _ _ (find .find .ensures) (answer .answer .ensures))
 
 put-form-requires : tie.Need-put-form-requires
 put-form-requires c κs = search needs

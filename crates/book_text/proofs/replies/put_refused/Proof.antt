@@ -19,7 +19,7 @@ put-byte-requires : tie.Need-put-byte-requires
 put-byte-requires c κs =
     let put-labelled = c .before .before .before in
     let start = put-labelled .before .before .before .before .before in
-    let first = room-left 13 16371 (put-labelled .put-labelled .ensures) (labelled-short _ _) (start .pre) in
+    let first = room-left 13 161 (put-labelled .put-labelled .ensures) (labelled-short _ _) (start .pre) in
     omega arith
 
 put-ground-requires : tie.Need-put-ground-requires
@@ -27,8 +27,8 @@ put-ground-requires c κs =
     let put-byte = c .before .before .before in
     let put-labelled = put-byte .before .before .before .before in
     let start = put-labelled .before .before .before .before .before in
-    let first = room-left 13 16371 (put-labelled .put-labelled .ensures) (labelled-short _ _) (start .pre) in
-    let second = room-left 1 16370 (put-byte .put-byte .ensures) (omega arith) first in
+    let first = room-left 13 161 (put-labelled .put-labelled .ensures) (labelled-short _ _) (start .pre) in
+    let second = room-left 1 160 (put-byte .put-byte .ensures) (omega arith) first in
     omega arith
 
 same-length : tie.Need-same-length

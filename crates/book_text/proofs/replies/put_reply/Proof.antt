@@ -23,6 +23,13 @@ slice-aggregate-put-one c = search needs
 put-one-requires : tie.Need-put-one-requires
 put-one-requires c κs = search needs
 
+enum-told : tie.Need-enum-told
+enum-told c = search needs
+
+put-tried-requires : tie.Need-put-tried-requires
+put-tried-requires c κs =
+    let room = c .before .before .before .before .before .pre in (room .0, room .1 (c .before .enum-told .given .1))
+
 enum-known-reply-3 : tie.Need-enum-known-reply-3
 enum-known-reply-3 c = search needs
 
@@ -41,8 +48,8 @@ slice-aggregate-put-circuit c = search needs
 put-circuit-requires : tie.Need-put-circuit-requires
 put-circuit-requires c κs = search needs
 
-enum-told : tie.Need-enum-told
-enum-told c = search needs
+enum-told-2 : tie.Need-enum-told-2
+enum-told-2 c = search needs
 
 slice-aggregate-put : tie.Need-slice-aggregate-put
 slice-aggregate-put c = search needs
@@ -71,8 +78,8 @@ slice-aggregate-put-two-4 c = search needs
 put-two-requires-2 : tie.Need-put-two-requires-2
 put-two-requires-2 c κs = search needs
 
-enum-told-2 : tie.Need-enum-told-2
-enum-told-2 c = search needs
+enum-told-3 : tie.Need-enum-told-3
+enum-told-3 c = search needs
 
 put-orders-requires : tie.Need-put-orders-requires
 put-orders-requires c κs = search needs
@@ -83,8 +90,8 @@ enum-known-reply-7 c = search needs
 put-refused-requires : tie.Need-put-refused-requires
 put-refused-requires c κs = search needs
 
-enum-told-3 : tie.Need-enum-told-3
-enum-told-3 c = search needs
+enum-told-4 : tie.Need-enum-told-4
+enum-told-4 c = search needs
 
 slice-aggregate-put-2 : tie.Need-slice-aggregate-put-2
 slice-aggregate-put-2 c = search needs
@@ -92,8 +99,8 @@ slice-aggregate-put-2 c = search needs
 put-requires-2 : tie.Need-put-requires-2
 put-requires-2 c κs = search needs
 
-enum-told-4 : tie.Need-enum-told-4
-enum-told-4 c = search needs
+enum-told-5 : tie.Need-enum-told-5
+enum-told-5 c = search needs
 
 slice-aggregate-put-3 : tie.Need-slice-aggregate-put-3
 slice-aggregate-put-3 c = search needs
@@ -123,61 +130,67 @@ same-length-3 : tie.Need-same-length-3
 same-length-3 c = search needs
 
 returns-3 : tie.Need-returns-3
-returns-3 c = rw (c .before .before .before .before .before .before .reply3 .given .1) (c .before .before .put-one2 .ensures)
+returns-3 c = rw (c .before .before .before .before .enum-told .given .1) (c .before .before .put-tried .ensures)
 
 same-length-4 : tie.Need-same-length-4
 same-length-4 c = search needs
 
 returns-4 : tie.Need-returns-4
-returns-4 c = rw (c .before .before .before .before .before .before .reply4 .given .1) (c .before .before .put-circuit .ensures)
+returns-4 c = rw (c .before .before .before .before .before .before .reply3 .given .1) (c .before .before .put-one2 .ensures)
 
 same-length-5 : tie.Need-same-length-5
 same-length-5 c = search needs
 
 returns-5 : tie.Need-returns-5
-returns-5 c = rw (c .before .before .before .before .before .enum-told .given .1) (c .before .before .put .ensures)
+returns-5 c = rw (c .before .before .before .before .before .before .reply4 .given .1) (c .before .before .put-circuit .ensures)
 
 same-length-6 : tie.Need-same-length-6
 same-length-6 c = search needs
 
 returns-6 : tie.Need-returns-6
-returns-6 c = rw (c .before .before .before .before .before .before .reply5 .given .1) (c .before .before .put-one3 .ensures)
+returns-6 c = rw (c .before .before .before .before .before .enum-told2 .given .1) (c .before .before .put .ensures)
 
 same-length-7 : tie.Need-same-length-7
 same-length-7 c = search needs
 
 returns-7 : tie.Need-returns-7
-returns-7 c = rw (c .before .before .before .before .before .before .before .reply6 .given .1) (c .before .before .put-two2 .ensures)
+returns-7 c = rw (c .before .before .before .before .before .before .reply5 .given .1) (c .before .before .put-one3 .ensures)
 
 same-length-8 : tie.Need-same-length-8
 same-length-8 c = search needs
 
 returns-8 : tie.Need-returns-8
-returns-8 c = rw (c .before .before .before .before .enum-told2 .given .1) (c .before .before .put-orders .ensures)
+returns-8 c = rw (c .before .before .before .before .before .before .before .reply6 .given .1) (c .before .before .put-two2 .ensures)
 
 same-length-9 : tie.Need-same-length-9
 same-length-9 c = search needs
 
 returns-9 : tie.Need-returns-9
-returns-9 c = rw (c .before .before .before .before .before .reply7 .given .1) (c .before .before .put-refused .ensures)
+returns-9 c = rw (c .before .before .before .before .enum-told3 .given .1) (c .before .before .put-orders .ensures)
 
 same-length-10 : tie.Need-same-length-10
 same-length-10 c = search needs
 
 returns-10 : tie.Need-returns-10
-returns-10 c = rw (c .before .before .before .before .before .enum-told3 .given .1) (c .before .before .put2 .ensures)
+returns-10 c = rw (c .before .before .before .before .before .reply7 .given .1) (c .before .before .put-refused .ensures)
 
 same-length-11 : tie.Need-same-length-11
 same-length-11 c = search needs
 
 returns-11 : tie.Need-returns-11
-returns-11 c = rw (c .before .before .before .before .before .enum-told4 .given .1) (c .before .before .put3 .ensures)
+returns-11 c = rw (c .before .before .before .before .before .enum-told4 .given .1) (c .before .before .put2 .ensures)
 
 same-length-12 : tie.Need-same-length-12
 same-length-12 c = search needs
 
 returns-12 : tie.Need-returns-12
-returns-12 c = rw (c .before .before .before .before .before .reply8 .given .1) (c .before .before .put-aside .ensures)
+returns-12 c = rw (c .before .before .before .before .before .enum-told5 .given .1) (c .before .before .put3 .ensures)
+
+same-length-13 : tie.Need-same-length-13
+same-length-13 c = search needs
+
+returns-13 : tie.Need-returns-13
+returns-13 c = rw (c .before .before .before .before .before .reply8 .given .1) (c .before .before .put-aside .ensures)
 
 pub put-reply-spec : {M : Type 1} → statement M
 put-reply-spec =
@@ -190,13 +203,15 @@ put-reply-spec =
     enum-known-reply-2
     slice-aggregate-put-one
     put-one-requires
+    enum-told
+    put-tried-requires
     enum-known-reply-3
     slice-aggregate-put-one-2
     put-one-requires-2
     enum-known-reply-4
     slice-aggregate-put-circuit
     put-circuit-requires
-    enum-told
+    enum-told-2
     slice-aggregate-put
     put-requires
     enum-known-reply-5
@@ -206,14 +221,14 @@ put-reply-spec =
     slice-aggregate-put-two-3
     slice-aggregate-put-two-4
     put-two-requires-2
-    enum-told-2
+    enum-told-3
     put-orders-requires
     enum-known-reply-7
     put-refused-requires
-    enum-told-3
+    enum-told-4
     slice-aggregate-put-2
     put-requires-2
-    enum-told-4
+    enum-told-5
     slice-aggregate-put-3
     put-requires-3
     enum-known-reply-8
@@ -241,4 +256,6 @@ put-reply-spec =
     same-length-11
     returns-11
     same-length-12
-    returns-12)
+    returns-12
+    same-length-13
+    returns-13)

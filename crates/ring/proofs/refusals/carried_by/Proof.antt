@@ -73,6 +73,9 @@ enum-told-18 c = search needs
 enum-told-19 : tie.Need-enum-told-19
 enum-told-19 c = search needs
 
+enum-told-20 : tie.Need-enum-told-20
+enum-told-20 c = search needs
+
 returns : tie.Need-returns
 returns c = ap carriedBy (sym (c .enum-told .given .1))
 
@@ -142,6 +145,9 @@ returns-22 c = ap carriedBy (sym (c .enum-told18 .given .1))
 returns-23 : tie.Need-returns-23
 returns-23 c = ap carriedBy (sym (c .enum-told19 .given .1))
 
+returns-24 : tie.Need-returns-24
+returns-24 c = ap carriedBy (sym (c .enum-told20 .given .1))
+
 pub carried-by-spec : {M : Type 1} → statement M
 carried-by-spec =
     tie.close
@@ -169,6 +175,7 @@ carried-by-spec =
     enum-told-17
     enum-told-18
     enum-told-19
+    enum-told-20
     returns
     returns-2
     returns-3
@@ -191,4 +198,5 @@ carried-by-spec =
     returns-20
     returns-21
     returns-22
-    returns-23)
+    returns-23
+    returns-24)
