@@ -1,6 +1,6 @@
 -- Lines on their way into a bundle, and the preview of a bundle that has them.
 use Prim.Native.Nat.{ℕ, _+_, _≤_, _<_}
-use mathlib.Core.Path.{_≡_, refl, sym, _∙_, ap}
+use mathlib.Core.Path.{_≡_, sym, _∙_, ap}
 use mathlib.Core.List.{List, [], _∷_, _++_}
 use mathlib.Core.Logic.{inr}
 use native.Mathlib.Omega.{arith}
@@ -15,10 +15,6 @@ use Rattle.book.specs.declared.bundles.Bundle.{Bundle}
 use Rattle.book.specs.Previews.{sizeVerdict, previewUnless, previewed, previewedAll}
 use Rattle.book.specs.Internal.Bundles.{Bundled}
 use Rattle.book.proofs.PreviewLaws.{size-refused}
-
--- a bundle of no line
-pub bundled-none : (lines : List Line) → Bundled (record { count = 0; lines = lines }) []
-bundled-none lines = record { few = λ h. (refl, refl); many = λ h. absurd (omega arith) }
 
 -- one line more
 module _ (bundle : Bundle) (l : Line) (ls : List Line) (has : Bundled bundle ls) where

@@ -25,7 +25,7 @@ use Rattle.book.specs.Previews.{line, grantedLine, afterLines, serialThe
 use Rattle.book.specs.Previews.{noPreview, previewUnless, previewed, PreviewPromise, Says, PreviewSays}
 
 -- each line that has a serial is answered by it
-pub serial-at : (b : Book) (ls : List Line) (i : ℕ) → i < length (serialsFor b ls)
+serial-at : (b : Book) (ls : List Line) (i : ℕ) → i < length (serialsFor b ls)
     → grantedLine (afterLines b (take i ls)) (line ls i) .answer ≡ grant.Granted (getD (serialsFor b ls) i 0)
 serial-at b [] i h = absurd (omega arith)
 serial-at b (l ∷ ls) i h = go (grantedLine b l .answer) refl (serial-at (grantedLine b l .book) ls) i h
@@ -44,12 +44,12 @@ serial-at b (l ∷ ls) i h = go (grantedLine b l .answer) refl (serial-at (grant
     go (grant.Refused r) e later i h = absurd (omega arith)
 
 -- the line that is named, with the lines numbered from k on, behind so many serials
-pub record StoppedAt (k : ℕ) (b : Book) (ls : List Line) (count i : ℕ) (r : Refusal) : Type 0 where
+record StoppedAt (k : ℕ) (b : Book) (ls : List Line) (count i : ℕ) (r : Refusal) : Type 0 where
   pub number : i ≡ k + count
   pub within : count < length ls
   pub refused : grantedLine (afterLines b (take count ls)) (line ls count) .answer ≡ grant.Refused r
 
-pub stopped-at : (k : ℕ) (b : Book) (ls : List Line) (i : ℕ) (r : Refusal) → stopFrom k b ls ≡ answer.Stopped i r
+stopped-at : (k : ℕ) (b : Book) (ls : List Line) (i : ℕ) (r : Refusal) → stopFrom k b ls ≡ answer.Stopped i r
     → StoppedAt k b ls (length (serialsFor b ls)) i r
 stopped-at k b [] i r e = let z : _≡_ {A = ℕ} 0 1 = cc in absurd (omega arith)
 stopped-at k b (l ∷ ls) i r e = go (grantedLine b l .answer) refl (stopped-at (k + 1) (grantedLine b l .book) ls i r) e
@@ -69,7 +69,7 @@ stopped-at k b (l ∷ ls) i r e = go (grantedLine b l .answer) refl (stopped-at 
         let same : p ≡ r = cc in
         record { number = omega arith; within = omega arith; refused = q ∙ ap grant.Refused same }
 
-pub all-have : (k : ℕ) (b : Book) (ls : List Line) → stopFrom k b ls ≡ answer.AllGranted → length (serialsFor b ls) ≡ length ls
+all-have : (k : ℕ) (b : Book) (ls : List Line) → stopFrom k b ls ≡ answer.AllGranted → length (serialsFor b ls) ≡ length ls
 all-have k b [] e = refl
 all-have k b (l ∷ ls) e = go (grantedLine b l .answer) (all-have (k + 1) (grantedLine b l .book) ls) e
   where
@@ -81,7 +81,7 @@ all-have k b (l ∷ ls) e = go (grantedLine b l .answer) (all-have (k + 1) (gran
     go (grant.Granted s) later f = ap suc (later f)
     go (grant.Refused q) later f = let z : _≡_ {A = ℕ} 0 1 = cc in absurd (omega arith)
 
-pub none-refused : (k : ℕ) (b : Book) (ls : List Line) (r : Refusal) → stopFrom k b ls ≡ answer.Refused r → ⊥
+none-refused : (k : ℕ) (b : Book) (ls : List Line) (r : Refusal) → stopFrom k b ls ≡ answer.Refused r → ⊥
 none-refused k b [] r e = let z : _≡_ {A = ℕ} 0 1 = cc in omega arith
 none-refused k b (l ∷ ls) r e = go (grantedLine b l .answer) (none-refused (k + 1) (grantedLine b l .book) ls r) e
   where
@@ -95,7 +95,7 @@ zero-at zero i = refl
 zero-at (suc n) zero = refl
 zero-at (suc n) (suc i) = zero-at n i
 
-pub behind : (xs : List ℕ) (n i : ℕ) → length xs ≤ i → getD (xs ++ replicate n 0) i 0 ≡ 0
+behind : (xs : List ℕ) (n i : ℕ) → length xs ≤ i → getD (xs ++ replicate n 0) i 0 ≡ 0
 behind [] n i h = zero-at n i
 behind (x ∷ xs) n zero h = absurd (omega arith)
 behind (x ∷ xs) n (suc i) h = behind xs n i (omega arith)
@@ -106,7 +106,7 @@ unfolding sizeVerdict
 size-refused count (inl h) = simp (eq-eqb count 0 h)
 size-refused count (inr h) = simp (ne-eqb count 0 (λ e. omega arith), lt-ltb 16 count h)
 
-pub size-allowed : (count : ℕ) → 1 ≤ count → count ≤ 16 → sizeVerdict count ≡ verdict.Allowed
+size-allowed : (count : ℕ) → 1 ≤ count → count ≤ 16 → sizeVerdict count ≡ verdict.Allowed
 unfolding sizeVerdict
 size-allowed count h k = simp (ne-eqb count 0 (λ e. omega arith), le-ltb 16 count k)
 
@@ -115,16 +115,16 @@ pub size-within : (count : ℕ) → sizeVerdict count ≡ verdict.Allowed → (1
 unfolding sizeVerdict
 size-within count e =
     let none = refuse-allowed (eqb count 0 || ltb 16 count) LineCount e in
-    let p = or-false (eqb count 0) (ltb 16 count) none in
+    let p = neither (eqb count 0) (ltb 16 count) none in
     let h = ltb-false 16 count (p .1) in
     elim (compare 0 count) [
       | less k q ↦ (k, h)
       | not-less k q ↦ impossible (sym (eq-eqb count 0 (omega arith)) ∙ p .0)
     ]
   where
-    or-false : (s t : Bool) → (s || t) ≡ false → (s ≡ false) × (t ≡ false)
-    or-false false t h = (refl, h)
-    or-false true t h = impossible h
+    neither : (s t : Bool) → (s || t) ≡ false → (s ≡ false) × (t ≡ false)
+    neither false t h = (refl, h)
+    neither true t h = impossible h
 
 -- 22, whatever the lines and the book are
 pub refused-by-size : (b : Book) (count : ℕ) (ls : List Line) (v : Verdict) (r : Refusal) (p : Previewed) → v ≡ sizeVerdict count

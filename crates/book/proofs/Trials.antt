@@ -25,27 +25,17 @@ use Rattle.book.specs.Previews.{previewUnless, previewed, PreviewPromise
 use Rattle.book.proofs.Validity.{grant-valid}
 use Rattle.book.proofs.PreviewLaws.{size-within}
 
--- what a granted line, and one that is turned down, comes to
-module _ (copy : Book) (l : Line) (rest : List Line) (g : Granted) (p : g ≡ grantedLine copy l) where
-  serials-on : (s : ℕ) → g .answer ≡ grant.Granted s → serialsFor copy (l ∷ rest) ≡ s ∷ serialsFor (g .book) rest
-  serials-on s e =
+-- what a line comes to, by the answer of its grant
+module _ (copy : Book) (l : Line) (rest : List Line) (g : Granted) (p : g ≡ grantedLine copy l) (a : GrantAnswer) (e : g .answer ≡ a) where
+  serials-by : serialsFor copy (l ∷ rest) ≡ serialThen a (serialsFor (g .book) rest)
+  serials-by =
       ap (λ (t : Granted). serialThen (t .answer) (serialsFor (t .book) rest)) (sym p)
-      ∙ ap (λ (a : GrantAnswer). serialThen a (serialsFor (g .book) rest)) e
+      ∙ ap (λ (x : GrantAnswer). serialThen x (serialsFor (g .book) rest)) e
 
-  stop-on : (i s : ℕ) → g .answer ≡ grant.Granted s → stopFrom i copy (l ∷ rest) ≡ stopFrom (i + 1) (g .book) rest
-  stop-on i s e =
+  stop-by : (i : ℕ) → stopFrom i copy (l ∷ rest) ≡ stopThen i a (stopFrom (i + 1) (g .book) rest)
+  stop-by i =
       ap (λ (t : Granted). stopThen i (t .answer) (stopFrom (i + 1) (t .book) rest)) (sym p)
-      ∙ ap (λ (a : GrantAnswer). stopThen i a (stopFrom (i + 1) (g .book) rest)) e
-
-  serials-end : (r : Refusal) → g .answer ≡ grant.Refused r → serialsFor copy (l ∷ rest) ≡ []
-  serials-end r e =
-      ap (λ (t : Granted). serialThen (t .answer) (serialsFor (t .book) rest)) (sym p)
-      ∙ ap (λ (a : GrantAnswer). serialThen a (serialsFor (g .book) rest)) e
-
-  stop-end : (i : ℕ) (r : Refusal) → g .answer ≡ grant.Refused r → stopFrom i copy (l ∷ rest) ≡ answer.Stopped i r
-  stop-end i r e =
-      ap (λ (t : Granted). stopThen i (t .answer) (stopFrom (i + 1) (t .book) rest)) (sym p)
-      ∙ ap (λ (a : GrantAnswer). stopThen i a (stopFrom (i + 1) (g .book) rest)) e
+      ∙ ap (λ (x : GrantAnswer). stopThen i x (stopFrom (i + 1) (g .book) rest)) e
 
 fewer-zeros : (k : ℕ) → _≡_ {A = List ℕ} (drop 1 (replicate k 0)) (replicate (k - 1) 0)
 fewer-zeros zero = refl
@@ -136,6 +126,16 @@ module _ (b : Book) (count : ℕ) (ls : List Line) where
       same : Valid b → g ≡ grantedLine copy (line ls i)
       same v = promise .valid (t .kept v)
 
+      -- what is said in all, by the answer to line i
+      given-by : Valid b → (a : GrantAnswer) → g .answer ≡ a
+          → take i serials ++ serialThen a (serialsFor (g .book) rest) ≡ serialsFor b all
+      given-by v a e =
+          ap (λ (xs : List ℕ). take i serials ++ xs) (sym (serials-by copy (line ls i) rest g (same v) a e))
+          ∙ ap (λ (xs : List Line). take i serials ++ serialsFor copy xs) (sym next) ∙ t .given v
+
+      stops-by : Valid b → (a : GrantAnswer) → g .answer ≡ a → stopThen i a (stopFrom (i + 1) (g .book) rest) ≡ stopFrom 0 b all
+      stops-by v a e = sym (stop-by copy (line ls i) rest g (same v) a e i) ∙ ap (stopFrom i copy) (sym next) ∙ t .stop v
+
       -- a ground that lies in the arguments of the first line turns that line down
       refused-first : (q : Refusal) → first-verdict ≡ verdict.Refused q → g .answer ≡ grant.Refused q
       refused-first q f =
@@ -158,11 +158,8 @@ module _ (b : Book) (count : ℕ) (ls : List Line) where
                 (grant-valid copy (t .kept v) (line ls i .x) (line ls i .y) (line ls i .way) (line ls i .colour));
             given = λ v. ap (λ (xs : List ℕ). xs ++ serialsFor (g .book) rest) front
                 ∙ append-snoc (take i serials) s (serialsFor (g .book) rest)
-                ∙ ap (λ (xs : List ℕ). take i serials ++ xs)
-                (sym (serials-on copy (line ls i) rest g (same v) s e))
-                ∙ ap (λ (xs : List Line). take i serials ++ serialsFor copy xs) (sym next) ∙ t .given v;
-            stop = λ v. sym (stop-on copy (line ls i) rest g (same v) i s e)
-                ∙ ap (stopFrom i copy) (sym next) ∙ t .stop v;
+                ∙ given-by v (grant.Granted s) e;
+            stop = λ v. stops-by v (grant.Granted s) e;
           }
 
       -- it is turned down
@@ -177,9 +174,7 @@ module _ (b : Book) (count : ℕ) (ls : List Line) where
             let w : serials ≡ replicate 16 0 = rw (p .0) at (t .zeros) in
             rw (p .0, z, w) refl;
         valid = saying (answer.Stopped i r)
-            (λ v. sym (stop-end copy (line ls i) rest g (same v) i r e) ∙ ap (stopFrom i copy) (sym next) ∙ t .stop v)
-            (λ v. sym (append-nil (take i serials))
-            ∙ ap (λ (xs : List ℕ). take i serials ++ xs) (sym (serials-end copy (line ls i) rest g (same v) r e))
-            ∙ ap (λ (xs : List Line). take i serials ++ serialsFor copy xs) (sym next) ∙ t .given v)
+            (λ v. stops-by v (grant.Refused r) e)
+            (λ v. sym (append-nil (take i serials)) ∙ given-by v (grant.Refused r) e)
             (omega (arith, within));
       })

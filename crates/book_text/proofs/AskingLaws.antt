@@ -55,10 +55,10 @@ module _ {close : ℕ} {text : List ℕ} {at : ℕ} where
 
 -- what was read at a position
 module _ {close : ℕ} {text : List ℕ} {at : ℕ} {r : AskedAt} (s : AskedRead close text at r) where
-  pub not-asked : r ≡ askedAt.Broken → askedOf close (drop at text) ≡ broken
+  not-asked : r ≡ askedAt.Broken → askedOf close (drop at text) ≡ broken
   not-asked e = sym (s .same) ∙ ap (askedIn text) e
 
-  pub is-asked : {l : Line} {next : ℕ} → r ≡ askedAt.Asked l next → askedOf close (drop at text) ≡ asked l (drop next text)
+  is-asked : {l : Line} {next : ℕ} → r ≡ askedAt.Asked l next → askedOf close (drop at text) ≡ asked l (drop next text)
   is-asked e = sym (s .same) ∙ ap (askedIn text) e
 
   pub asked-within : {l : Line} {next : ℕ} → r ≡ askedAt.Asked l next → next ≤ length text

@@ -23,7 +23,7 @@ pub lines-none : (entries : List ℕ) → (length entries % 4 ≡ 0 → ⊥) →
 unfolding linesOfEntries
 lines-none entries h = rw (ne-eqb (length entries % 4) 0 h) refl
 
-pub lines-all : (entries : List ℕ) → length entries % 4 ≡ 0 → linesOfEntries entries ≡ fours entries
+lines-all : (entries : List ℕ) → length entries % 4 ≡ 0 → linesOfEntries entries ≡ fours entries
 unfolding linesOfEntries
 lines-all entries h = rw (eq-eqb (length entries % 4) 0 h) refl
 
