@@ -204,12 +204,12 @@ static void time_check(int m) {
     Random random{uint64_t(m)};
     Ends ends = random_chords(m, random);
     std::vector<uint16_t> table(512);
-    uint16_t values[4];
-    if (tarziloen_plan(256, 128, ends.data(), ends.size(), table.data(), table.size(), values, 4) != 0) std::exit(1);
-    if (tarziloen_check(256, 128, ends.data(), ends.size(), table.data(), table.size(), values, 4) != 0) std::exit(1);
+    uint16_t values[5];
+    if (tarziloen_plan(256, 128, ends.data(), ends.size(), table.data(), table.size(), values, 5) != 0) std::exit(1);
+    if (tarziloen_check(256, 128, ends.data(), ends.size(), table.data(), table.size(), values, 1) != 0) std::exit(1);
     if (served(256, 128, ends, table.data()) != values[0]) std::exit(1);
     line("check of a plan", size_t(m),
-         microseconds([&] { tarziloen_check(256, 128, ends.data(), ends.size(), table.data(), table.size(), values, 4); }),
+         microseconds([&] { tarziloen_check(256, 128, ends.data(), ends.size(), table.data(), table.size(), values, 1); }),
          microseconds([&] { values[0] = uint16_t(served(256, 128, ends, table.data())); }));
 }
 

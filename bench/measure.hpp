@@ -23,8 +23,8 @@ template <class Work> double milliseconds(const Work& work, int& size) {
 
 inline int plan_match(const Ends& ends) {
     static uint16_t table[512];
-    uint16_t values[4];
-    uint16_t number = tarziloen_plan(nodes, colours, ends.data(), ends.size(), table, 512, values, 4);
+    uint16_t values[5];
+    uint16_t number = tarziloen_plan(nodes, colours, ends.data(), ends.size(), table, 512, values, 5);
     if (number != 0) {
         std::printf("plan refused a list: %d\n", number);
         std::exit(1);

@@ -78,8 +78,8 @@ extern "C" {
  * Out: the first m entries of `table`, a fate number for each request: 0
  * blocked, 1+2c plain in colour c, 2+2c seam in colour c; the entries behind
  * them stay. Values: the requests that the chain part serves, the size of a
- * maximum matching, the requests that the pair part serves, and the part that
- * the plan is (0 chain, 1 pair).
+ * maximum matching, the requests that the pair part serves, the part that the
+ * plan is (0 chain, 1 pair), and the ceiling: no feasible plan serves more.
  * Refused: 1 to 6.
  */
 uint16_t tarziloen_plan(uint16_t n, uint16_t w,

@@ -26,21 +26,22 @@ static void plan_and_check(void)
 {
     const uint16_t ends[8] = {0, 3, 3, 6, 6, 0, 1, 4};
     uint16_t table[4] = {9, 9, 9, 9};
-    uint16_t values[4] = {9, 9, 9, 9};
+    uint16_t values[5] = {9, 9, 9, 9, 9};
 
-    expect("short table", tarziloen_plan(8, 1, ends, 8, table, 3, values, 4), 6);
+    expect("short table", tarziloen_plan(8, 1, ends, 8, table, 3, values, 5), 6);
     expect("untouched table", table[0], 9);
-    expect("plan", tarziloen_plan(8, 1, ends, 8, table, 4, values, 4), 0);
+    expect("plan", tarziloen_plan(8, 1, ends, 8, table, 4, values, 5), 0);
     expect("chain", values[0], 2);
     expect("match", values[1], 2);
     expect("pair", values[2], 2);
     expect("part", values[3], 0);
+    expect("ceiling", values[4], 3);
     expect("request 0", table[0], 1);
     expect("request 3", table[3], 0);
-    expect("check", tarziloen_check(8, 1, ends, 8, table, 4, values, 4), 0);
+    expect("check", tarziloen_check(8, 1, ends, 8, table, 4, values, 5), 0);
     expect("served", values[0], 2);
     table[3] = 1;
-    expect("conflict", tarziloen_check(8, 1, ends, 8, table, 4, values, 4), 8);
+    expect("conflict", tarziloen_check(8, 1, ends, 8, table, 4, values, 5), 8);
     expect("first", values[0], 0);
     expect("second", values[1], 3);
 }
@@ -49,22 +50,23 @@ static void spare_colour(void)
 {
     const uint16_t ends[6] = {0, 1, 0, 1, 0, 1};
     uint16_t table[3] = {9, 9, 9};
-    uint16_t values[4] = {9, 9, 9, 9};
+    uint16_t values[5] = {9, 9, 9, 9, 9};
 
-    expect("plan", tarziloen_plan(3, 2, ends, 6, table, 3, values, 4), 0);
+    expect("plan", tarziloen_plan(3, 2, ends, 6, table, 3, values, 5), 0);
     expect("chain", values[0], 2);
     expect("match", values[1], 1);
     expect("pair", values[2], 3);
     expect("part", values[3], 1);
+    expect("ceiling", values[4], 3);
     expect("numbers 1, 2 and 3", table[0] + table[1] + table[2], 6);
-    expect("check", tarziloen_check(3, 2, ends, 6, table, 3, values, 4), 0);
+    expect("check", tarziloen_check(3, 2, ends, 6, table, 3, values, 5), 0);
     expect("served", values[0], 3);
 }
 
 static void answer(void)
 {
     const char text[] = "8 1 4\n0 3\n3 6\n6 0\n1 4\n";
-    const char wanted[] = "plan 8 1 4\nchain 2 match 2 pair 2 used chain\n0 P 0\n1 P 0\n2 B\n3 B\n";
+    const char wanted[] = "plan 8 1 4\nchain 2 match 2 pair 2 used chain ceiling 3\n0 P 0\n1 P 0\n2 B\n3 B\n";
     const uint8_t *bytes = (const uint8_t *)text;
     uint8_t out[TARZILOEN_ANSWER_BYTES];
     size_t length = tarziloen_answer(bytes, strlen(text), out, sizeof out);

@@ -1,6 +1,6 @@
 //! Plan and check.
 
-use crate::refusals::answered;
+use crate::refusals::{answered, answered_with};
 use crate::{raw, Refusal};
 
 /// The part that a plan is.
@@ -10,13 +10,14 @@ pub enum Part {
     Pair,
 }
 
-/// The counts that come with a plan.
+/// The counts that come with a plan, the part that it is, and the ceiling: no feasible plan serves more requests.
 #[derive(Clone, Copy, Debug, PartialEq, Eq)]
 pub struct Summary {
     pub chain: u16,
     pub matched: u16,
     pub paired: u16,
     pub used: Part,
+    pub ceiling: u16,
 }
 
 /// Plans the requests, two ends each: the fate number of each goes into the first entries of the table.
@@ -24,14 +25,15 @@ pub fn plan(n: u16, w: u16, ends: &[u16], table: &mut [u16]) -> Result<Summary, 
     let (list, given) = (ends.as_ptr(), ends.len());
     let (entries, room) = (table.as_mut_ptr(), table.len());
     // SAFETY: each pointer comes with the length of the slice that it points to, and the library stays within them.
-    answered(|values, count| unsafe {
+    answered_with(|values, count| unsafe {
         raw::tarziloen_plan(n, w, list, given, entries, room, values, count)
     })
-    .map(|[chain, matched, paired, used]| Summary {
+    .map(|[chain, matched, paired, used, ceiling]| Summary {
         chain,
         matched,
         paired,
         used: if used == 0 { Part::Chain } else { Part::Pair },
+        ceiling,
     })
 }
 

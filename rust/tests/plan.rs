@@ -11,7 +11,8 @@ fn output(input: &[u8], piece: usize) -> String {
 }
 
 const T1: &str = "8 1 4\n0 3\n3 6\n6 0\n1 4\n";
-const T1_PLAN: &str = "plan 8 1 4\nchain 2 match 2 pair 2 used chain\n0 P 0\n1 P 0\n2 B\n3 B\n";
+const T1_PLAN: &str =
+    "plan 8 1 4\nchain 2 match 2 pair 2 used chain ceiling 3\n0 P 0\n1 P 0\n2 B\n3 B\n";
 
 #[test]
 fn plans_whole_and_piece_by_piece() {
@@ -24,15 +25,15 @@ fn plans_whole_and_piece_by_piece() {
     );
     assert_eq!(
         output(b"4 1 2\n0 2\n2 0\n", 64),
-        "plan 4 1 2\nchain 1 match 1 pair 2 used pair\n0 P 0\n1 S 0\n"
+        "plan 4 1 2\nchain 1 match 1 pair 2 used pair ceiling 2\n0 P 0\n1 S 0\n"
     );
     assert_eq!(
         output(b"4 1 2\n0 2\n1 3\n", 64),
-        "plan 4 1 2\nchain 1 match 0 pair 1 used chain\n0 P 0\n1 B\n"
+        "plan 4 1 2\nchain 1 match 0 pair 1 used chain ceiling 1\n0 P 0\n1 B\n"
     );
     assert_eq!(
         output(b"3 1 0\n", 64),
-        "plan 3 1 0\nchain 0 match 0 pair 0 used chain\n"
+        "plan 3 1 0\nchain 0 match 0 pair 0 used chain ceiling 0\n"
     );
 }
 
@@ -40,7 +41,7 @@ fn plans_whole_and_piece_by_piece() {
 #[test]
 fn a_spare_colour_goes_to_the_request_that_is_left() {
     let text = output(b"3 2 3\n0 1\n0 1\n0 1\n", 64);
-    let counts = "plan 3 2 3\nchain 2 match 1 pair 3 used pair\n";
+    let counts = "plan 3 2 3\nchain 2 match 1 pair 3 used pair ceiling 3\n";
     let plan = text.strip_prefix(counts).expect("line 2 of T5");
     let right = [
         "0 P 0\n1 S 0\n2 P 1\n",

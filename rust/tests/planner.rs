@@ -7,14 +7,15 @@ use reference::pairs::{pair_part, pairs_shown};
 use reference::{best_plan, chain_count, check, requests, Random};
 use ring_planner::{plan, Part};
 
-/// What a plan was seen to serve: all its requests, and those in spare colours.
-struct Served {
-    requests: usize,
+/// What was seen of a plan: how many requests it serves, how many of them in spare colours, and its ceiling.
+struct Seen {
+    served: usize,
     spare: usize,
+    ceiling: usize,
 }
 
 /// Plans a list and compares all that is said of the plan with the second planner.
-fn compare(n: u16, w: u16, ends: &[u16]) -> Served {
+fn compare(n: u16, w: u16, ends: &[u16]) -> Seen {
     let m = ends.len() / 2;
     let list = requests(ends);
     let mut table = vec![9999u16; m + 3];
@@ -25,13 +26,15 @@ fn compare(n: u16, w: u16, ends: &[u16]) -> Served {
     let pairs = maximum_pairs(&list);
     let second = pair_part(nodes, colours, &list, &pairs);
     let paired = check(nodes, colours, &list, &second).expect("a feasible pair part") as usize;
+    let ceiling = m.min(chain + colours.min(pairs.len()));
     assert_eq!(
         (
             got.chain as usize,
             got.matched as usize,
-            got.paired as usize
+            got.paired as usize,
+            got.ceiling as usize
         ),
-        (chain, pairs.len(), paired),
+        (chain, pairs.len(), paired, ceiling),
         "n {n} w {w} {ends:?}"
     );
     assert_eq!(
@@ -53,9 +56,14 @@ fn compare(n: u16, w: u16, ends: &[u16]) -> Served {
         );
     }
     assert_eq!(&table[m..], &[9999, 9999, 9999], "entries past m stay");
-    let requests = check(nodes, colours, &list, &table).expect("the plan is feasible") as usize;
-    assert_eq!(requests, chain.max(paired));
-    Served { requests, spare }
+    let served = check(nodes, colours, &list, &table).expect("the plan is feasible") as usize;
+    assert_eq!(served, chain.max(paired));
+    assert!(served <= ceiling, "n {n} w {w} {ends:?}");
+    Seen {
+        served,
+        spare,
+        ceiling,
+    }
 }
 
 fn random_list(random: &mut Random, n: u64, m: u64) -> Vec<u16> {
@@ -142,28 +150,68 @@ fn counts_agree_on_many_lists() {
     println!("{lists} lists planned alike, {filled} of them with spare colours given out");
 }
 
+/// Compares what is said of the plan for a small list with every plan: whether two thirds are met exactly, and the ceiling.
+fn compare_with_every_plan(n: u16, w: u16, ends: &[u16]) -> (bool, bool) {
+    let list = requests(ends);
+    let seen = compare(n, w, ends);
+    let (n, w) = (n as usize, w as usize);
+    let best = best_plan(n, w, &list, None);
+    assert!(
+        2 * best <= 3 * seen.served,
+        "n {n} w {w} {ends:?}: {} of {best}",
+        seen.served
+    );
+    assert!(
+        best <= seen.ceiling,
+        "n {n} w {w} {ends:?}: {best} above {}",
+        seen.ceiling
+    );
+    assert_eq!(chain_count(w, &list), best_plan(n, w, &list, Some(n - 1)));
+    (
+        2 * best == 3 * seen.served && best > 0,
+        best == seen.ceiling,
+    )
+}
+
 #[test]
 fn bounds_on_small_rings_by_trying_all() {
     let mut random = Random::new(2);
-    let (mut lists, mut tight) = (0, 0);
+    let (mut lists, mut tight, mut reached) = (0, 0, 0);
+    let mut count = |n: u16, w: u16, ends: &[u16]| {
+        let (two_thirds, ceiling) = compare_with_every_plan(n, w, ends);
+        lists += 1;
+        tight += usize::from(two_thirds);
+        reached += usize::from(ceiling);
+    };
     for _ in 0..1500 {
         let n = 3 + random.below(4);
         let m = random.below(6);
         let w = 1 + random.below(2);
-        let ends = random_list(&mut random, n, m);
-        let list = requests(&ends);
-        let served = compare(n as u16, w as u16, &ends).requests;
-        let (n, w) = (n as usize, w as usize);
-        let best = best_plan(n, w, &list, None);
-        assert!(
-            2 * best <= 3 * served,
-            "n {n} w {w} {ends:?}: {served} of {best}"
-        );
-        assert_eq!(chain_count(w, &list), best_plan(n, w, &list, Some(n - 1)));
-        lists += 1;
-        tight += usize::from(2 * best == 3 * served && best > 0);
+        count(n as u16, w as u16, &random_list(&mut random, n, m));
     }
-    println!("{lists} lists against every plan, the bound met exactly on {tight}");
+    for (n, m) in [(3, 4), (4, 4), (5, 3), (6, 3)] {
+        for ends in every_list(n, m) {
+            count(n, 1, &ends);
+            count(n, 2, &ends);
+        }
+    }
+    println!("{lists} lists against every plan, two thirds met exactly on {tight}, the ceiling on {reached}");
+}
+
+/// Every list of at most m requests whose smaller end comes first.
+fn every_list(n: u16, m: usize) -> Vec<Vec<u16>> {
+    let mut lists = vec![Vec::new()];
+    let mut from = 0;
+    for _ in 0..m {
+        let to = lists.len();
+        for i in from..to {
+            for (a, b) in (0..n).flat_map(|a| (a + 1..n).map(move |b| (a, b))) {
+                lists.push([&lists[i][..], &[a, b]].concat());
+            }
+        }
+        from = to;
+    }
+    lists
 }
 
 #[test]

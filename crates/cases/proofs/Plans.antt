@@ -1,11 +1,10 @@
 -- Cases T1 to T6: the chain parts by computation, the match counts by a matching of that size and a bound.
 use Prim.Native.Nat.{ℕ, zero, suc, _*_, _≤_, _<_, min}
-use mathlib.Core.Path.{_≡_, refl, sym, ap, _∙_}
+use mathlib.Core.Path.{_≡_, refl, sym, _∙_}
 use mathlib.Core.Bool.{true, xor}
 use mathlib.Core.List.{List, [], _∷_, _++_, map}
 use mathlib.Core.Logic.{inl, inr}
 use native.Mathlib.Omega.{arith}
-use lib.Dec.{ltb}
 use lib.ListN.{length, drop, replicate}
 use Rattle.ring.specs.declared.fates.Fate.the-variants.{Blocked, Served}
 use Rattle.ring.specs.declared.ways.Way.the-variants.{Plain, Seam}
@@ -24,7 +23,7 @@ use Rattle.chain.specs.Rule.{pick}
 use Rattle.chain.specs.ChainPart.{latestAfter, chainFrom, chainPart}
 use Rattle.planner.specs.declared.answers.Part.the-variants as part
 use Rattle.planner.specs.PairPart.{ByLower, pairFates, pairPart, pairCount}
-use Rattle.planner.specs.Plan.{better, planOf}
+use Rattle.planner.specs.Plan.{planOf, ceilingOf}
 use Rattle.planner.specs.Ceiling.{MatchBound}
 use Rattle.planner.proofs.PlanLaws.{plan-pair}
 use Rattle.planner.proofs.MateLaws.{matching-size}
@@ -47,7 +46,7 @@ computed-t1 = record {
       λ Q m. omega (arith, matching-size (requestsOf endsT1) Q m);
 }
 
-pub plans-t1 : Plans 8 1 endsT1 (line2 2 2 2 part.Chain) planT1
+pub plans-t1 : Plans 8 1 endsT1 (line2 2 2 2 part.Chain 3) planT1
 unfolding served ringVerdict countVerdict listVerdict requestVerdicts endsVerdict
 plans-t1 =
     case-plans refl refl refl (λ P m l. record {
@@ -78,7 +77,7 @@ computed-t2 = record {
       λ Q m. omega (arith, matching-size (requestsOf endsT2) Q m);
 }
 
-pub plans-t2 : Plans 7 2 endsT2 (line2 4 2 4 part.Chain) (Served Plain 0 ∷ Served Plain 1 ∷ Served Plain 1 ∷ Served Plain 0 ∷ [])
+pub plans-t2 : Plans 7 2 endsT2 (line2 4 2 4 part.Chain 4) (Served Plain 0 ∷ Served Plain 1 ∷ Served Plain 1 ∷ Served Plain 0 ∷ [])
 unfolding served ringVerdict countVerdict listVerdict requestVerdicts endsVerdict
 plans-t2 =
     case-plans refl refl refl (λ P m l. record {
@@ -122,7 +121,7 @@ plan-t3 : (P : List Pair) → IsMaximum (requestsOf endsT3) P → ByLower P
 unfolding served
 plan-t3 P m l = plan-pair 4 1 _ P (rw (computed-t3 .chain, paired _ _ _ _ _ computed-t3 P m) (omega arith)) ∙ rw (only-pair P m l) fates-t3
 
-pub plans-t3 : Plans 4 1 endsT3 (line2 1 1 2 part.Pair) (Served Plain 0 ∷ Served Seam 0 ∷ [])
+pub plans-t3 : Plans 4 1 endsT3 (line2 1 1 2 part.Pair 2) (Served Plain 0 ∷ Served Seam 0 ∷ [])
 unfolding served ringVerdict countVerdict listVerdict requestVerdicts endsVerdict
 plans-t3 =
     case-plans refl refl refl
@@ -154,7 +153,7 @@ computed-t4 : Computed 4 1 (requestsOf endsT4) (Served Plain 0 ∷ Blocked ∷ [
 unfolding chainPart order pick
 computed-t4 = record { chain = refl; matching = matching-if _ _ refl refl; bound = no-pair }
 
-pub plans-t4 : Plans 4 1 endsT4 (line2 1 0 1 part.Chain) (Served Plain 0 ∷ Blocked ∷ [])
+pub plans-t4 : Plans 4 1 endsT4 (line2 1 0 1 part.Chain 1) (Served Plain 0 ∷ Blocked ∷ [])
 unfolding served ringVerdict countVerdict listVerdict requestVerdicts endsVerdict
 plans-t4 =
     case-plans refl refl refl (λ P m l. record {
@@ -195,7 +194,7 @@ written-t5 P maximum lower before =
     rw (computed-t5 .chain, paired _ _ _ _ _ computed-t5 P maximum) (omega arith) in
     rw (plan-pair 3 2 (requestsOf endsT5) P more) (rw (← single P one) at found)
 
-pub plans-t5 : PlansTo 3 2 endsT5 (line2 2 1 3 part.Pair) TableT5
+pub plans-t5 : PlansTo 3 2 endsT5 (line2 2 1 3 part.Pair 3) TableT5
 unfolding served ringVerdict countVerdict listVerdict requestVerdicts endsVerdict
 plans-t5 =
     case-plans refl refl refl
@@ -215,12 +214,13 @@ computed-t6 n w = record {
       λ Q m. omega (arith, matching-size [] Q m);
 }
 
-pub plans-t6 : (n w : ℕ) → 3 ≤ n → n ≤ 256 → 1 ≤ w → w ≤ 128 → Plans n w [] (line2 0 0 0 part.Chain) []
+pub plans-t6 : (n w : ℕ) → 3 ≤ n → n ≤ 256 → 1 ≤ w → w ≤ 128 → Plans n w [] (line2 0 0 0 part.Chain 0) []
 unfolding served countVerdict listVerdict requestVerdicts
 plans-t6 n w from to one most =
     let none : pairCount 0 w (min 0 w) ≡ 0 = omega arith in
+    let top : ceilingOf 0 w 0 0 ≡ 0 = omega arith in
     case-plans (ring-allowed n w (record { nodes-from = from; nodes-to = to; colours-from = one; colours-to = most })) refl refl
     (λ P m l. record {
-      counted = counts-are _ _ _ _ _ (computed-t6 n w) P m ∙ ap (λ k. line2 0 0 k (better (ltb 0 k))) none;
+      counted = counts-are _ _ _ _ _ (computed-t6 n w) P m ∙ rw (none, top) refl;
       written = writes _ (chain-is-plan _ _ _ _ _ (computed-t6 n w) P m (omega arith)) refl;
     })

@@ -24,7 +24,7 @@ use Rattle.chain.specs.ChainPart.{chainPart}
 use Rattle.planner.specs.declared.answers.Summary.{Summary}
 use Rattle.planner.specs.declared.answers.PlanAnswer.the-variants.{Planned}
 use Rattle.planner.specs.PairPart.{ByLower, pairPart, pairCount}
-use Rattle.planner.specs.Plan.{better, partUsed, planOf, summary}
+use Rattle.planner.specs.Plan.{better, partUsed, planOf, ceilingOf, summary}
 use Rattle.planner.specs.Ceiling.{MatchBound}
 use Rattle.planner.proofs.FillLaws.{pair-part-serves}
 use Rattle.planner.proofs.PlanLaws.{plan-chain}
@@ -105,7 +105,9 @@ module _ (n w : ℕ) (R : List Request) (fates : List Fate) (pairs : List Pair) 
   paired = pair-part-serves n w R P (maximum .matching) ∙ ap (λ k. pairCount (length R) w (min k w)) size
 
   -- the counts of line 2
-  pub counts-are : summary n w R P ≡ line2 (served fates) (length pairs) pairs-serve (better (ltb (served fates) pairs-serve))
+  pub counts-are : summary n w R P
+      ≡ line2 (served fates) (length pairs) pairs-serve (better (ltb (served fates) pairs-serve))
+      (ceilingOf (length R) w (served fates) (length pairs))
   unfolding summary partUsed
   counts-are = rw (computed .chain, size, paired)
 

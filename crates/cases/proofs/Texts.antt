@@ -28,19 +28,19 @@ inputT1-read : readingOf (bytes "8 1 4\n0 3\n3 6\n6 0\n1 4\n") ≡ readable 8 1 
 unfolding readingOf formOf heading line field
 inputT1-read = refl
 
-outputT1-printed : planText 8 1 4 (line2 2 2 2 part.Chain) planT1
-    ≡ bytes "plan 8 1 4\nchain 2 match 2 pair 2 used chain\n0 P 0\n1 P 0\n2 B\n3 B\n"
+outputT1-printed : planText 8 1 4 (line2 2 2 2 part.Chain 3) planT1
+    ≡ bytes "plan 8 1 4\nchain 2 match 2 pair 2 used chain ceiling 3\n0 P 0\n1 P 0\n2 B\n3 B\n"
 unfolding planText planLine countsLine fateLine labelled decimal
 outputT1-printed = refl
 
 pub prints-t1 : Prints (bytes "8 1 4\n0 3\n3 6\n6 0\n1 4\n")
-    (bytes "plan 8 1 4\nchain 2 match 2 pair 2 used chain\n0 P 0\n1 P 0\n2 B\n3 B\n")
+    (bytes "plan 8 1 4\nchain 2 match 2 pair 2 used chain ceiling 3\n0 P 0\n1 P 0\n2 B\n3 B\n")
 unfolding answerText fateOf fateNumber
 prints-t1 before after size room promise =
     let printed = promise .printed room in
     let right = rw inputT1-read at (printed .right) in
     let planned = plans-t1 (replicate 512 0) (right .table) (right .result) (omega arith) (right .promise) in
-    let text : answerText 8 1 4 (right .result) (right .table) ≡ planText 8 1 4 (line2 2 2 2 part.Chain) planT1 =
+    let text : answerText 8 1 4 (right .result) (right .table) ≡ planText 8 1 4 (line2 2 2 2 part.Chain 3) planT1 =
     rw (planned .0, planned .1) refl in
     let output = (right .same ∙ text) ∙ outputT1-printed in
     (printed .whole ∙ ap length output, rw output at (printed .buffer))

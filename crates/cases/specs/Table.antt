@@ -32,9 +32,9 @@ use Rattle.texts.specs.Bytes.{bytes}
 use Rattle.plan_text.specs.Promise.{AnswerPromise}
 use Rattle.check_text.specs.Promise.{lineFor}
 
--- line 2 of the planning program: "chain .. match .. pair .. used .."
-abbrev pub line2 : ℕ → ℕ → ℕ → Part → Summary
-line2 chain match pair used = record { chain = chain; matched = match; paired = pair; used = used }
+-- line 2 of the planning program: "chain .. match .. pair .. used .. ceiling .."
+abbrev pub line2 : ℕ → ℕ → ℕ → Part → ℕ → Summary
+line2 chain match pair used ceiling = record { chain = chain; matched = match; paired = pair; used = used; ceiling = ceiling }
 
 -- whatever meets the promise of plan on a list, with a table long enough, gives these counts, and Right holds of the table before and after
 abbrev pub PlansTo : ℕ → ℕ → List ℕ → Summary → (List ℕ → List ℕ → Type 0) → Type 0
@@ -64,32 +64,32 @@ planT1 = Served Plain 0 ∷ Served Plain 0 ∷ Blocked ∷ Blocked ∷ []
 abbrev pub threeServed : List Fate
 threeServed = Served Plain 0 ∷ Served Plain 0 ∷ Served Seam 0 ∷ Blocked ∷ []
 
--- T1 n 8, w 1: "a feasible plan serves 3 (requests 0, 1, 2), so the bound is met exactly", and the program's input and output
+-- T1 n 8, w 1: "a feasible plan serves 3 (requests 0, 1, 2), so the bound is met exactly, and so is the ceiling"; with input and output
 pub record T1 : Type 0 where
-  pub plans : Plans 8 1 endsT1 (line2 2 2 2 part.Chain) planT1
+  pub plans : Plans 8 1 endsT1 (line2 2 2 2 part.Chain 3) planT1
   pub feasible : Feasible 8 1 (requestsOf endsT1) threeServed
   pub serves : served threeServed ≡ 3
   pub exactly : 3 * served planT1 ≡ 2 * served threeServed
   pub prints : Prints (bytes "8 1 4\n0 3\n3 6\n6 0\n1 4\n")
-      (bytes "plan 8 1 4\nchain 2 match 2 pair 2 used chain\n0 P 0\n1 P 0\n2 B\n3 B\n")
+      (bytes "plan 8 1 4\nchain 2 match 2 pair 2 used chain ceiling 3\n0 P 0\n1 P 0\n2 B\n3 B\n")
 
--- T2 n 7, w 2: "chain serves 4, colours 0, 1, 1, 0"
+-- T2 n 7, w 2: "chain serves 4, colours 0, 1, 1, 0; ceiling 4"
 pub record T2 : Type 0 where
-  pub plans : Plans 7 2 (0 ∷ 2 ∷ 1 ∷ 3 ∷ 3 ∷ 5 ∷ 2 ∷ 6 ∷ []) (line2 4 2 4 part.Chain)
+  pub plans : Plans 7 2 (0 ∷ 2 ∷ 1 ∷ 3 ∷ 3 ∷ 5 ∷ 2 ∷ 6 ∷ []) (line2 4 2 4 part.Chain 4)
       (Served Plain 0 ∷ Served Plain 1 ∷ Served Plain 1 ∷ Served Plain 0 ∷ [])
 
--- T3 n 4, w 1: "pair part, numbers 1 and 2"
+-- T3 n 4, w 1: "pair part, numbers 1 and 2; ceiling 2"
 pub record T3 : Type 0 where
-  pub plans : Plans 4 1 (0 ∷ 2 ∷ 2 ∷ 0 ∷ []) (line2 1 1 2 part.Pair) (Served Plain 0 ∷ Served Seam 0 ∷ [])
+  pub plans : Plans 4 1 (0 ∷ 2 ∷ 2 ∷ 0 ∷ []) (line2 1 1 2 part.Pair 2) (Served Plain 0 ∷ Served Seam 0 ∷ [])
   pub numbers : map fateNumber (Served Plain 0 ∷ Served Seam 0 ∷ []) ≡ 1 ∷ 2 ∷ []
 
 -- the list of T4 and T10
 abbrev pub endsT4 : List ℕ
 endsT4 = 0 ∷ 2 ∷ 1 ∷ 3 ∷ []
 
--- T4 n 4, w 1: "chain 1, match 0, pair 1, chain used"
+-- T4 n 4, w 1: "chain 1, match 0, pair 1, chain used, ceiling 1"
 pub record T4 : Type 0 where
-  pub plans : Plans 4 1 endsT4 (line2 1 0 1 part.Chain) (Served Plain 0 ∷ Blocked ∷ [])
+  pub plans : Plans 4 1 endsT4 (line2 1 0 1 part.Chain 1) (Served Plain 0 ∷ Blocked ∷ [])
 
 -- the list of T5
 abbrev pub endsT5 : List ℕ
@@ -100,13 +100,13 @@ abbrev pub TableT5 : List ℕ → List ℕ → Type 0
 TableT5 before after =
     (after ≡ 1 ∷ 2 ∷ 3 ∷ drop 3 before) ⊎ ((after ≡ 1 ∷ 3 ∷ 2 ∷ drop 3 before) ⊎ (after ≡ 3 ∷ 1 ∷ 2 ∷ drop 3 before))
 
--- T5 n 3, w 2: "{0,1} three times: chain 2, match 1, pair 3, pair used"
+-- T5 n 3, w 2: "{0,1} three times: chain 2, match 1, pair 3, pair used, ceiling 3"
 pub record T5 : Type 0 where
-  pub plans : PlansTo 3 2 endsT5 (line2 2 1 3 part.Pair) TableT5
+  pub plans : PlansTo 3 2 endsT5 (line2 2 1 3 part.Pair 3) TableT5
 
--- T6 "no requests: all counts 0, chain used", on any ring and with any number of colours within the limits
+-- T6 "no requests: all counts 0, chain used, ceiling 0", on any ring and with any number of colours within the limits
 pub record T6 : Type 0 where
-  pub plans : (n w : ℕ) → 3 ≤ n → n ≤ 256 → 1 ≤ w → w ≤ 128 → Plans n w [] (line2 0 0 0 part.Chain) []
+  pub plans : (n w : ℕ) → 3 ≤ n → n ≤ 256 → 1 ≤ w → w ≤ 128 → Plans n w [] (line2 0 0 0 part.Chain 0) []
 
 -- T7 n 4, w 1: the grants, the removal and the shows, the latest call first
 pub record T7 : Type 0 where

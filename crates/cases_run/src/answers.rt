@@ -40,8 +40,8 @@ fn write_refusal(refusal: Refusal) {
 
 fn write_part(part: Part) {
     match part {
-        Part::Chain => write(b" used chain\n"),
-        Part::Pair => write(b" used pair\n"),
+        Part::Chain => write(b" used chain"),
+        Part::Pair => write(b" used pair"),
     }
 }
 
@@ -52,6 +52,8 @@ fn write_summary(summary: Summary) {
     write_number(b" pair ", summary.paired);
     let used = summary.used;
     write_part(used);
+    write_number(b" ceiling ", summary.ceiling);
+    write(b"\n");
 }
 
 // The numbers of a table, in one line.

@@ -16,7 +16,7 @@ ghost use Rattle.planner.specs.Plan.{planInNumbers};
 ghost use Rattle.export.specs.Outcomes.{putFrom, Answered};
 ghost use Rattle.export.specs.Calls.{PlanCall};
 
-// The counts and the part of a plan.
+// The counts, the part and the ceiling of a plan.
 fn put_summary(values: &mut [u16], summary: Summary)
     ensures { λ _. ⌜ now (values .exit) ≡ putFrom 0 (planInNumbers (Planned summary) .values) (now (values .entry)) ⌝ }
 {
@@ -25,9 +25,10 @@ fn put_summary(values: &mut [u16], summary: Summary)
     put(values, 1, summary.matched);
     put(values, 2, summary.paired);
     put(values, 3, part_number(used));
+    put(values, 4, summary.ceiling);
 }
 
-// Plans the requests of the ends into the table. Values: chain, match, pair, part (0 chain, 1 pair).
+// Plans the requests of the ends into the table. Values: chain, match, pair, part (0 chain, 1 pair), ceiling.
 #[no_mangle]
 pub extern "C" fn tarziloen_plan(
     n: u16,

@@ -15,11 +15,17 @@ use Rattle.planner.specs.declared.answers.Part.the-variants as part
 use Rattle.planner.specs.declared.answers.Summary.{Summary}
 use Rattle.ring.proofs.FateLaws.{fates-length}
 use Rattle.texts.specs.Bytes.{bytes}
+use Rattle.texts.specs.Layout.{labelled}
 use Rattle.texts.specs.Internal.Writing.{Wrote}
 use Rattle.texts.proofs.DecimalLaws.{decimal-short}
 use Rattle.texts.proofs.WritingLaws.{wrote-then}
-use Rattle.texts.proofs.WordLaws.{labelled-short, way-short}
-use Rattle.plan_text.specs.Layout.{planLine, partEnding, countsLine, fateEnding, fateLine, fateLines}
+use Rattle.texts.proofs.WordLaws.{labelled-short, way-short, room-left}
+use Rattle.plan_text.specs.Layout.{planLine, partWord, countsLine, fateEnding, fateLine, fateLines}
+
+-- the room that a number leaves, behind a word of at most 9 bytes
+pub labelled-room : {out mid : List ℕ} {at next : ℕ} (word : List ℕ) (n rest : ℕ) → Wrote out at (labelled word n) mid next
+    → length word ≤ 9 → at + (14 + rest) ≤ length out → next + rest ≤ length mid
+labelled-room word n rest s short room = room-left 14 rest s (omega (arith, labelled-short word n)) room
 
 -- the line of a request, of a plan and of its counts
 pub fate-short : (fate : Fate) → length (fateEnding fate) ≤ 9
@@ -41,17 +47,18 @@ plan-line-short n w m =
     let third = labelled-short (bytes " ") m in
     simp length-append (omega arith)
 
-part-short : (used : Part) → length (partEnding used) ≤ 6
+pub part-short : (used : Part) → length (partWord used) ≤ 5
 part-short part.Chain = omega arith
 part-short part.Pair = omega arith
 
-pub counts-line-short : (counts : Summary) → length (countsLine counts) ≤ 46
+pub counts-line-short : (counts : Summary) → length (countsLine counts) ≤ 60
 unfolding countsLine
 counts-line-short counts =
     let first = labelled-short (bytes "chain ") (counts .chain) in
     let second = labelled-short (bytes " match ") (counts .matched) in
     let third = labelled-short (bytes " pair ") (counts .paired) in
-    let ending = part-short (counts .used) in
+    let word = part-short (counts .used) in
+    let fourth = labelled-short (bytes " ceiling ") (counts .ceiling) in
     simp length-append (omega arith)
 
 -- one request more has one line more

@@ -20,18 +20,18 @@ unfoldable pub planLine : ℕ → ℕ → ℕ → List ℕ
 planLine n w m =
     labelled (bytes "plan ") n ++ (labelled (bytes " ") w ++ (labelled (bytes " ") m ++ bytes "\n"))
 
--- "the part used (chain or pair)", at the end of its line
-abbrev pub partEnding : Part → List ℕ
-partEnding part.Chain = bytes "chain\n"
-partEnding part.Pair = bytes "pair\n"
+-- "the part used (chain or pair)"
+abbrev pub partWord : Part → List ℕ
+partWord part.Chain = bytes "chain"
+partWord part.Pair = bytes "pair"
 
--- "Line 2 gives" the counts "and the part used": `chain C match M pair P used chain`, or `used pair`
+-- "Line 2 gives" the counts, "the part used" and "the ceiling": `chain C match M pair P used chain ceiling N`, or `used pair`
 unfoldable pub countsLine : Summary → List ℕ
 countsLine counts =
     labelled (bytes "chain ") (counts .chain)
     ++ (labelled (bytes " match ") (counts .matched)
     ++ (labelled (bytes " pair ") (counts .paired)
-    ++ (bytes " used " ++ partEnding (counts .used))))
+    ++ (bytes " used " ++ (partWord (counts .used) ++ (labelled (bytes " ceiling ") (counts .ceiling) ++ bytes "\n")))))
 
 -- "then B, or P (plain) or S (seam) and the colour"
 abbrev pub fateEnding : Fate → List ℕ

@@ -12,7 +12,7 @@ ghost use Prim.Native.Nat.{_+_, _≤_};
 ghost use lib.ListN.{length, take};
 ghost use Rattle.ring.specs.Plans.{fatesOf};
 ghost use Rattle.texts.specs.Internal.Writing.{Wrote};
-ghost use Rattle.plan_text.specs.Layout.{planLine, partEnding, countsLine, fateEnding, fateLine, fateLines, planText, refusedLine};
+ghost use Rattle.plan_text.specs.Layout.{planLine, partWord, countsLine, fateEnding, fateLine, fateLines, planText, refusedLine};
 ghost use Rattle.plan_text.specs.Internal.Fitting.{FatesFit, PlanFits};
 
 // The line of n, w and m.
@@ -26,28 +26,30 @@ fn put_plan_line(out: &mut [u8], at: usize, n: u16, w: u16, m: u16) -> usize
     put_byte(out, requests, b'\n')
 }
 
-// The part used, at the end of its line.
+// The part used.
 fn put_part(out: &mut [u8], at: usize, part: Part) -> usize
-    requires { ⌜ at + 6 ≤ length (now out) ⌝ }
-    ensures { λ next. ⌜ Wrote (now (out .entry)) at (partEnding part) (now (out .exit)) next ⌝ }
+    requires { ⌜ at + 5 ≤ length (now out) ⌝ }
+    ensures { λ next. ⌜ Wrote (now (out .entry)) at (partWord part) (now (out .exit)) next ⌝ }
 {
     match part {
-        Part::Chain => put(out, at, b"chain\n"),
-        Part::Pair => put(out, at, b"pair\n"),
+        Part::Chain => put(out, at, b"chain"),
+        Part::Pair => put(out, at, b"pair"),
     }
 }
 
-// The line of the counts and the part used.
+// The line of the counts, the part used and the ceiling.
 fn put_counts_line(out: &mut [u8], at: usize, counts: Summary) -> usize
-    requires { ⌜ at + 46 ≤ length (now out) ⌝ }
+    requires { ⌜ at + 68 ≤ length (now out) ⌝ }
     ensures { λ next. ⌜ Wrote (now (out .entry)) at (countsLine counts) (now (out .exit)) next ⌝ }
 {
     let chain = put_labelled(out, at, b"chain ", counts.chain);
     let matched = put_labelled(out, chain, b" match ", counts.matched);
     let paired = put_labelled(out, matched, b" pair ", counts.paired);
-    let next = put(out, paired, b" used ");
+    let word = put(out, paired, b" used ");
     let used = counts.used;
-    put_part(out, next, used)
+    let part = put_part(out, word, used);
+    let ceiling = put_labelled(out, part, b" ceiling ", counts.ceiling);
+    put_byte(out, ceiling, b'\n')
 }
 
 // What becomes of a request, at the end of its line.

@@ -1,4 +1,4 @@
--- What any feasible plan serves: no more than the chain count and the smaller of the match count and w together.
+-- What any feasible plan serves: no more than the chain count and the smaller of the match count and w together, and no more than all.
 use Prim.Native.Nat.{ℕ, zero, suc, _+_, _*_, _-_, _≤_, _<_, min}
 use mathlib.Core.Path.{_≡_, refl, sym, ap, _∙_}
 use mathlib.Core.Bool.{Bool, true, false, not, cond, _&&_, true≢false}
@@ -18,11 +18,12 @@ use Rattle.ring.specs.Ways.{uses}
 use Rattle.ring.specs.Chords.{compatible}
 use Rattle.ring.specs.Plans.{fate, served, Feasible, KeepsOff}
 use Rattle.ring.specs.Matchings.{Pair, pair, IsMatching}
-use Rattle.ring.proofs.PlanLaws.{served-in}
+use Rattle.ring.proofs.PlanLaws.{served-in, served-le}
 use Rattle.ring.proofs.Cases.{yes, no, is, same, different, test, eqb-refl, impossible}
 use Rattle.ring.proofs.Counting.{length-le}
 use Rattle.ring.proofs.WayLaws.{seam-uses-last, plain-avoids-last, none-share}
 use Rattle.ring.proofs.RoutingLaws.{disjoint-compatible}
+use Rattle.planner.specs.Plan.{ceilingOf}
 use Rattle.planner.specs.Ceiling.{Ceiling, TwoThirds, CeilingLaw}
 use Rattle.planner.proofs.Lists.{consIf, collect, collect-length, collect-all, collect-once, NotIn, pairs-once}
 
@@ -274,9 +275,11 @@ ceiling n w R valid chain size chained matched F feasible = omega (
   chained (moved F (crowded F)) (moved-feasible n w R valid F feasible) (moved-keeps-off n w R valid F feasible),
   matched (couples n w R valid F feasible) (couples-matching n w R valid F feasible),
   few-couples n w R valid F feasible,
+  served-le F,
+  feasible .each,
 )
 
 -- two thirds follow for whatever serves the chain count at least, and twice the smaller of the match count and w
-pub two-thirds : (n w : ℕ) (R : List Request) (chain size ours : ℕ) → Ceiling n w R (chain + min size w) → chain ≤ ours
+pub two-thirds : (n w : ℕ) (R : List Request) (chain size ours : ℕ) → Ceiling n w R (ceilingOf (length R) w chain size) → chain ≤ ours
     → 2 * min size w ≤ ours → TwoThirds n w R ours
 two-thirds n w R chain size ours top chained paired F feasible = omega (arith, top F feasible)

@@ -1,11 +1,13 @@
 -- The choice between the two parts, and the promise of plan.
 use Prim.Native.Nat.{ℕ, _+_, _*_, _-_, _/_, _≤_, _<_, min}
 use mathlib.Core.Path.{_≡_, refl, sym, ap, _∙_}
+use mathlib.Core.Bool.{true, false}
 use mathlib.Core.List.{List, _++_, map}
 use native.Mathlib.Omega.{arith}
 use lib.ListN.{length, take, drop, length-map}
 use lib.Seq.{take-at, drop-at, length-front, length-take-le}
-use borrow.Author.Tests.{lt-ltb, le-ltb}
+use lib.Dec.{ltb}
+use borrow.Author.Tests.{ltb-true, ltb-false}
 use Rattle.ring.specs.declared.rings.Ring.{Ring}
 use Rattle.ring.specs.declared.rings.RingAnswer.the-variants as ring
 use Rattle.ring.specs.declared.refusals.Refusal.{Refusal}
@@ -18,17 +20,18 @@ use Rattle.ring.specs.Plans.{served}
 use Rattle.ring.specs.Matchings.{Pair, IsMaximum}
 use Rattle.ring.specs.Admission.{ringUnless, callVerdict, callAnswer}
 use Rattle.ring.proofs.Cases.{impossible}
+use Rattle.ring.proofs.PlanLaws.{served-le}
 use Rattle.ring.proofs.AdmissionLaws.{CallLimits, made-allowed, call-limits}
 use Rattle.chain.specs.ChainPart.{chainPart}
 use Rattle.chain.specs.Promises.{Colourable, Coloured}
 use Rattle.chain.proofs.ChainOptimal.{chain-is-optimal}
 use Rattle.matching.specs.declared.matchings.Matching.{Matching}
 use Rattle.matching.specs.Maximum.{pairsOf, MaximumMatching}
-use Rattle.planner.specs.declared.answers.Part.the-variants as part
+use Rattle.planner.specs.declared.answers.Part.{Part}
 use Rattle.planner.specs.declared.answers.Summary.{Summary}
 use Rattle.planner.specs.declared.answers.PlanAnswer.the-variants as answer
 use Rattle.planner.specs.PairPart.{ByLower, pairFates, colouredPairs, pairPart, pairCount}
-use Rattle.planner.specs.Plan.{partUsed, summary}
+use Rattle.planner.specs.Plan.{better, partUsed, planOf, ceilingOf, summary}
 use Rattle.planner.specs.Promise.{PlanPromise}
 use Rattle.planner.specs.Internal.Writing.{pairTable}
 use Rattle.planner.specs.Internal.Filling.{filledTable}
@@ -44,7 +47,7 @@ pub counted : (m w pairs requests filled : ℕ) → requests ≡ m → filled �
     → 2 * pairs + filled ≡ pairCount m w pairs
 counted m w pairs requests filled e f = cc
 
-module _ (n w : ℕ) (ends mates table : List ℕ) (chain size : ℕ) (choosable : Choosable n w ends mates table chain size) where
+module _ {n w : ℕ} {ends mates table : List ℕ} {chain size : ℕ} (choosable : Choosable n w ends mates table chain size) where
   abbrev R : List Request
   R = requestsOf ends
 
@@ -62,6 +65,19 @@ module _ (n w : ℕ) (ends mates table : List ℕ) (chain size : ℕ) (choosable
         omega (arith, choosable .writable .valid .few),
       )
 
+  -- the chain count and w together fit
+  pub few-served : chain + w < 65536
+  few-served =
+      let valid = choosable .writable .valid in
+      omega (
+        arith,
+        choosable .chain,
+        served-le (chainPart n w R),
+        chain-is-optimal n w R valid .feasible .each,
+        valid .few,
+        choosable .writable .colours,
+      )
+
   pair-count : (pairs paired : ℕ) → pairs ≡ min size w → paired ≡ pairCount (length ends / 2) w pairs → paired ≡ served (pairPart n w R P)
   pair-count pairs paired e f =
       let same : pairs ≡ colouredPairs w P = omega (arith, choosable .matched) in
@@ -69,44 +85,39 @@ module _ (n w : ℕ) (ends mates table : List ℕ) (chain size : ℕ) (choosable
 
   -- the pair part serves more: the pairs are written, then the spare colours filled
   pub pair-chosen : (pairs paired : ℕ) (middle filled : List ℕ) → pairs ≡ min size w → paired ≡ pairCount (length ends / 2) w pairs
-      → chain < paired → middle ≡ pairTable n w R mates table → filled ≡ filledTable w (w - pairs) (take (length ends / 2) middle)
-      → Chosen n w R P table (filled ++ drop (length ends / 2) middle)
-      (record { chain = chain; matched = size; paired = paired; used = part.Pair })
-  unfolding summary partUsed
+      → ltb chain paired ≡ true → middle ≡ pairTable n w R mates table → filled ≡ filledTable w (w - pairs) (take (length ends / 2) middle)
+      → filled ++ drop (length ends / 2) middle ≡ map fateNumber (planOf n w R P) ++ drop (length R) table
   pair-chosen pairs paired middle filled e f h g k =
       let c = choosable .chain in
       let p = pair-count pairs paired e f in
       let s = choosable .matched in
-      let more : served (chainPart n w R) < served (pairPart n w R P) = omega arith in
+      let more : served (chainPart n w R) < served (pairPart n w R P) = omega (arith, ltb-true chain paired h) in
       let spare : w - pairs ≡ w - colouredPairs w P = omega arith in
       let numbers = map fateNumber (pairFates n w R P) in
       let all : length numbers ≡ length ends / 2 = length-map (pairFates n w R P) fateNumber ∙ (pair-fates-length n w R P ∙ sym half) in
-      record {
-        table = rw (
-          plan-pair n w R P more,
-          k,
-          g,
-          take-at numbers (drop (length R) table) (length ends / 2) all,
-          drop-at numbers (drop (length R) table) (length ends / 2) all,
-        ) (rw (pair-part-filled n w R P (w - pairs) spare) refl);
-        counts =
-            rw (lt-ltb (served (chainPart n w R)) (served (pairPart n w R P)) more) (cc);
-      }
+      rw (
+        plan-pair n w R P more,
+        k,
+        g,
+        take-at numbers (drop (length R) table) (length ends / 2) all,
+        drop-at numbers (drop (length R) table) (length ends / 2) all,
+      ) (rw (pair-part-filled n w R P (w - pairs) spare) refl)
 
   -- it does not, and the chain part stays
-  pub chain-chosen : (pairs paired : ℕ) → pairs ≡ min size w → paired ≡ pairCount (length ends / 2) w pairs → paired ≤ chain
-      → Chosen n w R P table table (record { chain = chain; matched = size; paired = paired; used = part.Chain })
-  unfolding summary partUsed
+  pub chain-chosen : (pairs paired : ℕ) → pairs ≡ min size w → paired ≡ pairCount (length ends / 2) w pairs → ltb chain paired ≡ false
+      → table ≡ map fateNumber (planOf n w R P) ++ drop (length R) table
   chain-chosen pairs paired e f h =
       let c = choosable .chain in
       let p = pair-count pairs paired e f in
-      let s = choosable .matched in
-      let less : served (pairPart n w R P) ≤ served (chainPart n w R) = omega arith in
-      record {
-        table = rw (plan-chain n w R P less) (choosable .table);
-        counts =
-            rw (le-ltb (served (chainPart n w R)) (served (pairPart n w R P)) less) (cc);
-      }
+      let less : served (pairPart n w R P) ≤ served (chainPart n w R) = omega (arith, ltb-false chain paired h) in
+      rw (plan-chain n w R P less) (choosable .table)
+
+  -- line 2
+  pub counts-chosen : (requests pairs paired top : ℕ) (used : Part) → requests ≡ length ends / 2 → pairs ≡ min size w
+      → paired ≡ pairCount (length ends / 2) w pairs → used ≡ better (ltb chain paired) → top ≡ ceilingOf requests w chain size
+      → record { chain = chain; matched = size; paired = paired; used = used; ceiling = top } ≡ summary n w R P
+  unfolding summary partUsed
+  counts-chosen requests pairs paired top used r e f u t = cc (choosable .chain, choosable .matched, pair-count pairs paired e f, half)
 
 -- The first m entries after the chain part is written, and the others.
 

@@ -16,7 +16,8 @@ use Rattle.ring.proofs.FateLaws.{fates-of-numbers}
 use Rattle.chain.specs.ChainPart.{chainPart}
 use Rattle.chain.specs.Promises.{OptimalOffSeam}
 use Rattle.planner.specs.PairPart.{colouredPairs, pairPart, pairCount}
-use Rattle.planner.specs.Plan.{partUsed, planOf, summary}
+use Rattle.planner.specs.Plan.{partUsed, planOf, ceilingOf, summary}
+use Rattle.planner.specs.Ceiling.{Ceiling}
 use Rattle.planner.specs.Promise.{readPlan, Demand3}
 use Rattle.planner.proofs.Bound.{ceiling, two-thirds}
 use Rattle.planner.proofs.FillLaws.{pair-part-feasible, pair-part-serves}
@@ -55,13 +56,15 @@ module _ (n w : ℕ) (R : List Request) (valid : ValidRequests n R) (chain : Opt
       rw (take-at (map fateNumber (planOf n w R P)) rest (length R) (length-map (planOf n w R P) fateNumber ∙ plan-feasible .each))
       (fates-of-numbers (planOf n w R P))
 
+  plan-ceiling : Ceiling n w R (ceilingOf (length R) w (served (chainPart n w R)) (length P))
+  plan-ceiling = ceiling n w R valid (served (chainPart n w R)) (length P) (chain .most) (maximum .largest)
+
   pub demand : (rest : List ℕ) → Demand3 n w R (map fateNumber (planOf n w R P) ++ rest) (summary n w R P) P
   unfolding summary
   demand rest = record {
     feasible = rw (plan-read rest) plan-feasible;
     twoThirds = rw (plan-read rest, plan-serves)
-        (two-thirds n w R (served (chainPart n w R)) (length P) _
-        (ceiling n w R valid (served (chainPart n w R)) (length P) (chain .most) (maximum .largest)) (omega arith) (omega arith));
+        (two-thirds n w R (served (chainPart n w R)) (length P) _ plan-ceiling (omega arith) (omega arith));
     chain = refl;
     chainFeasible = chain .feasible;
     chainKeepsOff = chain .keepsOff;
@@ -70,4 +73,6 @@ module _ (n w : ℕ) (R : List Request) (valid : ValidRequests n R) (chain : Opt
     matching = maximum .matching;
     matchMost = maximum .largest;
     paired = pair-part-serves n w R P (maximum .matching);
+    ceiling = refl;
+    ceilingMost = plan-ceiling;
   }

@@ -1,5 +1,5 @@
--- What any plan serves, against the two counts that are printed with every plan.
-use Prim.Native.Nat.{ℕ, _+_, _*_, _-_, _≤_, min}
+-- What any plan serves, against the counts and the ceiling that are printed with every plan.
+use Prim.Native.Nat.{ℕ, _*_, _-_, _≤_}
 use mathlib.Core.List.{List}
 use lib.ListN.{length}
 use Rattle.ring.specs.declared.requests.Request.{Request}
@@ -7,6 +7,7 @@ use Rattle.ring.specs.declared.fates.Fate.{Fate}
 use Rattle.ring.specs.Requests.{ValidRequests}
 use Rattle.ring.specs.Plans.{Feasible, KeepsOff, served}
 use Rattle.ring.specs.Matchings.{Pair, IsMatching}
+use Rattle.planner.specs.Plan.{ceilingOf}
 
 -- no feasible plan that keeps off the seam serves more than this
 abbrev pub ChainBound : ℕ → ℕ → List Request → ℕ → Type 0
@@ -24,7 +25,7 @@ Ceiling n w R most = (F : List Fate) → Feasible n w R F → served F ≤ most
 abbrev pub TwoThirds : ℕ → ℕ → List Request → ℕ → Type 0
 TwoThirds n w R ours = (F : List Fate) → Feasible n w R F → 2 * served F ≤ 3 * ours
 
--- the law: any bounds for the chain and for the matchings give a ceiling, the chain's and the smaller of the matchings' and w together
+-- the law: the rule makes a ceiling of any bounds for the chain and for the matchings, as it does of the two counts
 abbrev pub CeilingLaw : Type 0
 CeilingLaw = (n w : ℕ) (R : List Request) → ValidRequests n R → (chain size : ℕ) → ChainBound n w R chain → MatchBound R size
-    → Ceiling n w R (chain + min size w)
+    → Ceiling n w R (ceilingOf (length R) w chain size)

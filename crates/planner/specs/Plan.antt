@@ -1,5 +1,5 @@
 -- The plan and its counts.
-use Prim.Native.Nat.{ℕ}
+use Prim.Native.Nat.{ℕ, _+_, min}
 use mathlib.Core.Bool.{Bool, true, false}
 use mathlib.Core.List.{List, [], _∷_}
 use lib.Dec.{ltb}
@@ -35,13 +35,18 @@ planBy part.Chain n w R P = chainPart n w R
 unfoldable pub planOf : ℕ → ℕ → List Request → List Pair → List Fate
 planOf n w R P = planBy (partUsed n w R P) n w R P
 
--- "line 2's counts and part": what the chain part serves, the match count, what the pair part serves
+-- "the chain count plus the smaller of the match count and w, or m if that sum is above m"
+abbrev pub ceilingOf : ℕ → ℕ → ℕ → ℕ → ℕ
+ceilingOf m w chain matched = min (chain + min matched w) m
+
+-- "line 2's counts, part and ceiling": what the chain part serves, the match count, what the pair part serves, and those two
 unfoldable pub summary : ℕ → ℕ → List Request → List Pair → Summary
 summary n w R P = record {
   chain = served (chainPart n w R);
   matched = length P;
   paired = served (pairPart n w R P);
   used = partUsed n w R P;
+  ceiling = ceilingOf (length R) w (served (chainPart n w R)) (length P);
 }
 
 -- 0 chain, 1 pair
@@ -49,7 +54,7 @@ abbrev pub partNumber : Part → ℕ
 partNumber part.Chain = 0
 partNumber part.Pair = 1
 
--- the answer of plan in numbers: "line 2's counts and part are given"
+-- the answer of plan in numbers: "line 2's counts, part and ceiling are given"
 abbrev pub planInNumbers : PlanAnswer → InNumbers
-planInNumbers (answer.Planned s) = gives (s .chain ∷ s .matched ∷ s .paired ∷ partNumber (s .used) ∷ [])
+planInNumbers (answer.Planned s) = gives (s .chain ∷ s .matched ∷ s .paired ∷ partNumber (s .used) ∷ s .ceiling ∷ [])
 planInNumbers (answer.Refused r) = refuses r

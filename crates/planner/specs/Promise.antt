@@ -17,8 +17,8 @@ use Rattle.planner.specs.declared.answers.Summary.{Summary}
 use Rattle.planner.specs.declared.answers.PlanAnswer.{PlanAnswer}
 use Rattle.planner.specs.declared.answers.PlanAnswer.the-variants as answer
 use Rattle.planner.specs.PairPart.{ByLower, pairCount}
-use Rattle.planner.specs.Plan.{planOf, summary}
-use Rattle.planner.specs.Ceiling.{ChainBound, MatchBound, TwoThirds}
+use Rattle.planner.specs.Plan.{ceilingOf, planOf, summary}
+use Rattle.planner.specs.Ceiling.{ChainBound, MatchBound, Ceiling, TwoThirds}
 
 -- "the first m table entries, read as fates, are our plan"
 abbrev pub readPlan : List Request → List ℕ → List Fate
@@ -40,13 +40,16 @@ pub record Demand3 (n w : ℕ) (R : List Request) (table : List ℕ) (counts : S
   pub matchMost : MatchBound R (counts .matched)
   -- "The pair count is 2k plus the smaller of w−k and m−2k", with k "the smaller of the match count and w"
   pub paired : counts .paired ≡ pairCount (length R) w (min (counts .matched) w)
+  -- the ceiling is "the chain count plus the smaller of the match count and w, or m if that sum is above m"; no feasible plan serves more
+  pub ceiling : counts .ceiling ≡ ceilingOf (length R) w (counts .chain) (counts .matched)
+  pub ceilingMost : Ceiling n w R (counts .ceiling)
 
 -- a plan is made. Which maximum matching is found is open: `pairs` is one, and all else follows from it
 pub record PlanMade (n w : ℕ) (R : List Request) (before after : List ℕ) (result : PlanAnswer) : Type 0 where
   pub pairs : List Pair
   pub maximum : IsMaximum R pairs
   pub byLower : ByLower pairs
-  -- "line 2's counts and part are given"
+  -- "line 2's counts, part and ceiling are given"
   pub counts : result ≡ answer.Planned (summary n w R pairs)
   -- "Otherwise the first m entries alone are written"
   pub table : after ≡ map fateNumber (planOf n w R pairs) ++ drop (length R) before

@@ -11,13 +11,32 @@ use ring::numbers::narrow;
 use ring::numbers::smaller;
 use ring::requests::call_answer;
 use ring::rings::RingAnswer;
+ghost use mathlib.Core.Path.{_≡_};
+ghost use Prim.Native.Nat.{_+_, _<_};
 ghost use lib.ListN.{length};
 ghost use Rattle.ring.specs.Requests.{requestsOf};
 ghost use Rattle.matching.specs.Maximum.{pairsOf};
+ghost use Rattle.planner.specs.Plan.{better, ceilingOf};
 ghost use Rattle.planner.specs.Promise.{PlanPromise};
 ghost use Rattle.planner.specs.Internal.Choosing.{Choosable, Chosen};
 
-// The pair part is written over the chain part if it serves more. The counts and the part used are given back.
+// The pair part, if it serves more.
+fn better(more: bool) -> Part
+    ensures { λ part. ⌜ part ≡ better more ⌝ }
+{
+    if more { Part::Pair } else { Part::Chain }
+}
+
+// The chain count plus the smaller of the match count and w, or m if that sum is above m.
+fn ceiling(m: u16, w: u16, chain: u16, matched: u16) -> u16
+    requires { ⌜ chain + w < 65536 ⌝ }
+    ensures { λ r. ⌜ r ≡ ceilingOf m w chain matched ⌝ }
+{
+    let sum = chain + smaller(matched, w);
+    smaller(sum, m)
+}
+
+// The pair part is written over the chain part if it serves more. The counts, the part used and the ceiling are given back.
 fn choose(
     ring: Ring,
     ends: &[u16],
@@ -31,25 +50,22 @@ fn choose(
         (pairsOf (length (requestsOf (now (ends .entry)))) (now (mates .entry))) (now (table .entry)) (now (table .exit)) r ⌝ }
 {
     let m = ends.len() / 2;
+    let requests = narrow(m);
     let matched = size as u16;
     let pairs = smaller(matched, ring.colours);
     let spare = ring.colours - pairs;
-    let paired = 2 * pairs + smaller(spare, narrow(m) - 2 * pairs);
-    if chain < paired {
+    let paired = 2 * pairs + smaller(spare, requests - 2 * pairs);
+    let more = chain < paired;
+    if more {
         write_pairs(ring, ends, mates, table);
         fill(spare, ring.colours, &mut table[..m]);
-        return Summary {
-            chain,
-            matched,
-            paired,
-            used: Part::Pair,
-        };
     }
     Summary {
         chain,
         matched,
         paired,
-        used: Part::Chain,
+        used: better(more),
+        ceiling: ceiling(requests, ring.colours, chain, matched),
     }
 }
 

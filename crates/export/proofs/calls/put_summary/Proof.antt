@@ -18,17 +18,27 @@ part-number-requires c κs = search needs
 put-requires-4 : tie.Need-put-requires-4
 put-requires-4 c κs = search needs
 
+put-requires-5 : tie.Need-put-requires-5
+put-requires-5 c κs = search needs
+
 same-length : tie.Need-same-length
 same-length c = search needs
 
 returns : tie.Need-returns
 returns c =
-    let fourth = c .before .before in
+    let fifth = c .before .before in
+    let fourth = fifth .before .before .before .before in
     let third = fourth .before .before .before .before .before in
     let second = third .before .before .before .before in
     let first = second .before .before .before .before in
-    fourth .put4 .ensures
-    ∙ (rw (fourth .before .part-number .ensures, third .put3 .ensures, second .put2 .ensures, first .put .ensures))
+    fifth .put5 .ensures
+    ∙ (rw (
+      fourth .put4 .ensures,
+      fourth .before .part-number .ensures,
+      third .put3 .ensures,
+      second .put2 .ensures,
+      first .put .ensures,
+    ))
 
 pub put-summary-spec : {M : Type 1} → statement M
 put-summary-spec =
@@ -39,5 +49,6 @@ put-summary-spec =
     put-requires-3
     part-number-requires
     put-requires-4
+    put-requires-5
     same-length
     returns)

@@ -22,7 +22,7 @@ put-fate-lines-requires : tie.Need-put-fate-lines-requires
 put-fate-lines-requires c κs =
     let first = room-left 23 8169 (c .before .before .before .before .before .before .before .put-plan-line .ensures)
     (plan-line-short _ _ _) (omega arith) in
-    let second = room-left 46 8123 (c .before .before .before .put-counts-line .ensures) (counts-line-short _) first in
+    let second = room-left 60 8109 (c .before .before .before .put-counts-line .ensures) (counts-line-short _) first in
     record {
       few = c .before .before .before .before .before .before .before .before .before .before .before .pre .few;
       entries =

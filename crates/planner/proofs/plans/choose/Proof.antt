@@ -1,18 +1,21 @@
 use Prim.Native.Nat.{_/_}
-use mathlib.Core.Path.{sym}
+use mathlib.Core.Path.{sym, ap, _∙_}
+use mathlib.Core.Logic.{⊎-elim}
 use native.Mathlib.Omega.{arith}
 use lib.ListN.{length}
 use lib.Seq.{length-take-le}
-use Rattle.planner.proofs.ChoiceLaws.{counted, few-pairs, pair-chosen, chain-chosen}
+use Rattle.planner.proofs.ChoiceLaws.{counted, few-pairs, few-served, pair-chosen, chain-chosen, counts-chosen}
 use borrow.Author.Needs.{needs}
 use Rattle.planner.proofs.plans.choose.Statement.{statement}
 use Rattle.planner.proofs.plans.choose.Tie as tie
 
+narrow-requires : tie.Need-narrow-requires
+narrow-requires c κs = search needs
+
 cast-matched : tie.Need-cast-matched
 cast-matched c =
-    let s = c .before .before in
-    let few = few-pairs (s .args .ring .nodes) (s .args .ring .colours) (s .args .ends .now) (s .args .mates .now) (s .args .table .now)
-    (s .args .chain) (s .args .size) (s .pre) in
+    let s = c .before .before .before in
+    let few = few-pairs (s .pre) in
     omega arith
 
 smaller-requires : tie.Need-smaller-requires
@@ -24,18 +27,14 @@ sub-spare c = search needs
 mul-paired : tie.Need-mul-paired
 mul-paired c = search needs
 
-narrow-requires : tie.Need-narrow-requires
-narrow-requires c κs = search needs
-
 mul-smaller : tie.Need-mul-smaller
 mul-smaller c = search needs
 
 sub-smaller : tie.Need-sub-smaller
 sub-smaller c =
     let s = c .before .before .before .before .before in
-    let few = few-pairs (s .args .ring .nodes) (s .args .ring .colours) (s .args .ends .now) (s .args .mates .now) (s .args .table .now)
-    (s .args .chain) (s .args .size) (s .pre) in
-    omega (arith, c .before .before .smaller .ensures)
+    let few = few-pairs (s .pre) in
+    omega (arith, c .before .smaller .ensures)
 
 smaller-requires-2 : tie.Need-smaller-requires-2
 smaller-requires-2 c κs = search needs
@@ -55,42 +54,46 @@ slice-aggregate-fill c = sym (length-take-le _ _ (search needs))
 fill-requires : tie.Need-fill-requires
 fill-requires c κs = search needs
 
+better-requires : tie.Need-better-requires
+better-requires c κs = search needs
+
+ceiling-requires : tie.Need-ceiling-requires
+ceiling-requires c κs =
+    let s = c .before .before .before .before .before .before .before .before in
+    few-served (s .pre)
+
 same-length : tie.Need-same-length
-same-length c = search needs
+same-length c = ⊎-elim (λ then. ap length (then .9) ∙ search needs) (λ past. ap length (past .1)) (c .before .before .if1 .came)
 
 returns : tie.Need-returns
 returns c =
-    let b = c .before .before in
-    let written = b .before .before .before .before in
-    let then = written .before .before in
-    let t = then .before in
-    let first = t .before .before .before in
-    let s = first .before .before .before in
-    pair-chosen (s .args .ring .nodes) (s .args .ring .colours) (s .args .ends .now) (s .args .mates .now) (s .args .table .now)
-    (s .args .chain) (s .args .size) (s .pre) (first .smaller .result) _ _ _ (first .smaller .ensures)
-    (counted (length (s .args .ends .now) / 2) (s .args .ring .colours) (first .smaller .result) (t .before .narrow .result)
-    (t .smaller2 .result) (t .before .narrow .ensures) (t .smaller2 .ensures)) (then .if1 .taken) (written .write-pairs .ensures)
-    (b .fill .ensures)
-
-returns-2 : tie.Need-returns-2
-returns-2 c =
-    let t = c .before in
-    let first = t .before .before .before in
-    let s = first .before .before .before in
-    chain-chosen (s .args .ring .nodes) (s .args .ring .colours) (s .args .ends .now) (s .args .mates .now) (s .args .table .now)
-    (s .args .chain) (s .args .size) (s .pre) (first .smaller .result) _ (first .smaller .ensures)
-    (counted (length (s .args .ends .now) / 2) (s .args .ring .colours) (first .smaller .result) (t .before .narrow .result)
-    (t .smaller2 .result) (t .before .narrow .ensures) (t .smaller2 .ensures)) (c .if1 .left)
+    let joined = c .before .before in
+    let t = joined .before in
+    let first = t .before .before in
+    let s = first .before .before .before .before in
+    let requests = first .before .narrow .ensures in
+    let pairs = first .smaller .ensures in
+    let paired = counted (length (s .args .ends .now) / 2) (s .args .ring .colours) (first .smaller .result) (first .before .narrow .result)
+    (t .smaller2 .result) requests (t .smaller2 .ensures) in
+    record {
+      table = ⊎-elim
+          (λ then. then .9
+          ∙ pair-chosen (s .pre) (first .smaller .result) _ _ _ pairs paired (then .0 .taken) (then .2 .ensures) (then .6 .ensures))
+          (λ past. past .1 ∙ chain-chosen (s .pre) (first .smaller .result) _ pairs paired (past .0 .left)) (joined .if1 .came);
+      counts =
+          counts-chosen (s .pre) _ (first .smaller .result) _ _ _ requests pairs paired (c .before .better .ensures)
+          (c .ceiling .ensures);
+    }
 
 pub choose-spec : {M : Type 1} → statement M
 choose-spec =
     tie.close
     (tie.spec
+    narrow-requires
     cast-matched
     smaller-requires
     sub-spare
     mul-paired
-    narrow-requires
     mul-smaller
     sub-smaller
     smaller-requires-2
@@ -99,6 +102,7 @@ choose-spec =
     slice-relend-prefix-fill
     slice-aggregate-fill
     fill-requires
+    better-requires
+    ceiling-requires
     same-length
-    returns
-    returns-2)
+    returns)
