@@ -1,4 +1,7 @@
 //! Previews against the naive book, where they are grants one after another on a copy, and against the same grants made for real.
+#[allow(dead_code)]
+#[path = "../src/raw.rs"]
+mod raw;
 mod reference;
 
 use std::collections::BTreeMap;
@@ -8,17 +11,6 @@ use reference::draws::{draw_bundle, draw_grant};
 use reference::stored::encode;
 use reference::Random;
 use ring_planner::{buffers, Book, Line, Preview, Refusal, Way};
-
-extern "C" {
-    fn tarziloen_book_preview(
-        bytes: *const u8,
-        bytes_len: usize,
-        lines: *const u16,
-        lines_len: usize,
-        values: *mut u16,
-        values_len: usize,
-    ) -> u16;
-}
 
 /// No value of a preview in these tests.
 const MARK: u16 = 54321;
@@ -32,8 +24,9 @@ fn call(form: &[u8], entries: &[u16], room: usize) -> Outcome {
     let (book, length) = (bytes.as_mut_ptr(), bytes.len());
     let (given, count) = (lines.as_mut_ptr(), lines.len());
     // SAFETY: each pointer comes with the length of what it points to, or with less.
-    let result =
-        unsafe { tarziloen_book_preview(book, length, given, count, values.as_mut_ptr(), room) };
+    let result = unsafe {
+        raw::tarziloen_book_preview(book, length, given, count, values.as_mut_ptr(), room)
+    };
     assert!(bytes == form && lines == entries, "what is lent stays");
     (result, values)
 }

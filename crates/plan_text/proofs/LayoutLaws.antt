@@ -22,9 +22,13 @@ use Rattle.texts.proofs.WritingLaws.{wrote-then}
 use Rattle.texts.proofs.WordLaws.{labelled-short, way-short, room-left}
 use Rattle.plan_text.specs.Layout.{planLine, partWord, countsLine, fateEnding, fateLine, fateLines}
 
--- the room that a number leaves, behind a word of at most 9 bytes
-pub labelled-room : {out mid : List ℕ} {at next : ℕ} (word : List ℕ) (n rest : ℕ) → Wrote out at (labelled word n) mid next
-    → length word ≤ 9 → at + (14 + rest) ≤ length out → next + rest ≤ length mid
+-- so much room is left behind what was written
+abbrev pub Leaves : {out mid bytes : List ℕ} {at next : ℕ} → ℕ → Wrote out at bytes mid next → Type 0
+Leaves {mid = mid} {next = next} rest s = next + rest ≤ length mid
+
+-- behind a number that follows a word of at most 9 bytes
+pub labelled-room : {out mid : List ℕ} {at next : ℕ} (word : List ℕ) (n rest : ℕ) (s : Wrote out at (labelled word n) mid next)
+    → length word ≤ 9 → at + (14 + rest) ≤ length out → Leaves rest s
 labelled-room word n rest s short room = room-left 14 rest s (omega (arith, labelled-short word n)) room
 
 -- the line of a request, of a plan and of its counts

@@ -1,11 +1,34 @@
 use native.Mathlib.Omega.{arith}
 use Rattle.plan_text.specs.Layout.{countsLine}
-use Rattle.plan_text.proofs.LayoutLaws.{labelled-room, part-short}
+use Rattle.plan_text.proofs.LayoutLaws.{Leaves, labelled-room, part-short}
 use Rattle.texts.proofs.WordLaws.{room-left}
 use Rattle.texts.proofs.WritingLaws.{wrote-then}
 use borrow.Author.Needs.{needs}
 use Rattle.plan_text.proofs.layout.put_counts_line.Statement.{statement}
 use Rattle.plan_text.proofs.layout.put_counts_line.Tie as tie
+
+-- the room that each part of the line leaves
+one : (c : tie.After-put-labelled) → Leaves 54 (c .put-labelled .ensures)
+one c = labelled-room _ _ 54 (c .put-labelled .ensures) (omega arith) (c .before .before .before .before .pre)
+
+two : (c : tie.After-put-labelled2) → Leaves 40 (c .put-labelled2 .ensures)
+two c = labelled-room _ _ 40 (c .put-labelled2 .ensures) (omega arith) (one (c .before .before .before .before .before))
+
+three : (c : tie.After-put-labelled3) → Leaves 26 (c .put-labelled3 .ensures)
+three c = labelled-room _ _ 26 (c .put-labelled3 .ensures) (omega arith) (two (c .before .before .before .before .before))
+
+four : (c : tie.After-put) → Leaves 20 (c .put .ensures)
+four c = room-left 6 20 (c .put .ensures) (omega arith) (three (c .before .before .before .before .before))
+
+five : (c : tie.After-put-part) → Leaves 15 (c .put-part .ensures)
+five c =
+    let word = c .before .before .before .before in
+    let second = word .before .before .before .before .before .before .before .before .before .before in
+    let s = second .before .before .before .before .before .before .before .before .before in
+    room-left 5 15 (c .put-part .ensures) (part-short (s .args .counts .used)) (four word)
+
+six : (c : tie.After-put-labelled4) → Leaves 1 (c .put-labelled4 .ensures)
+six c = labelled-room _ _ 1 (c .put-labelled4 .ensures) (omega arith) (five (c .before .before .before .before .before))
 
 slice-aggregate-put-labelled : tie.Need-slice-aggregate-put-labelled
 slice-aggregate-put-labelled c = search needs
@@ -17,85 +40,31 @@ slice-aggregate-put-labelled-2 : tie.Need-slice-aggregate-put-labelled-2
 slice-aggregate-put-labelled-2 c = search needs
 
 put-labelled-requires-2 : tie.Need-put-labelled-requires-2
-put-labelled-requires-2 c κs =
-    let first = c .before .before .before .before in
-    let s = first .before .before .before .before in
-    let one = labelled-room _ _ 54 (first .put-labelled .ensures) (omega arith) (s .pre) in
-    omega arith
+put-labelled-requires-2 c κs = omega (arith, one (c .before .before .before .before))
 
 slice-aggregate-put-labelled-3 : tie.Need-slice-aggregate-put-labelled-3
 slice-aggregate-put-labelled-3 c = search needs
 
 put-labelled-requires-3 : tie.Need-put-labelled-requires-3
-put-labelled-requires-3 c κs =
-    let second = c .before .before .before .before in
-    let first = second .before .before .before .before .before in
-    let s = first .before .before .before .before in
-    let one = labelled-room _ _ 54 (first .put-labelled .ensures) (omega arith) (s .pre) in
-    let two = labelled-room _ _ 40 (second .put-labelled2 .ensures) (omega arith) one in
-    omega arith
+put-labelled-requires-3 c κs = omega (arith, two (c .before .before .before .before))
 
 slice-aggregate-put : tie.Need-slice-aggregate-put
 slice-aggregate-put c = search needs
 
 put-requires : tie.Need-put-requires
-put-requires c κs =
-    let third = c .before .before .before .before in
-    let second = third .before .before .before .before .before in
-    let first = second .before .before .before .before .before in
-    let s = first .before .before .before .before in
-    let one = labelled-room _ _ 54 (first .put-labelled .ensures) (omega arith) (s .pre) in
-    let two = labelled-room _ _ 40 (second .put-labelled2 .ensures) (omega arith) one in
-    let three = labelled-room _ _ 26 (third .put-labelled3 .ensures) (omega arith) two in
-    omega arith
+put-requires c κs = omega (arith, three (c .before .before .before .before))
 
 put-part-requires : tie.Need-put-part-requires
-put-part-requires c κs =
-    let word = c .before .before .before in
-    let third = word .before .before .before .before .before in
-    let second = third .before .before .before .before .before in
-    let first = second .before .before .before .before .before in
-    let s = first .before .before .before .before in
-    let one = labelled-room _ _ 54 (first .put-labelled .ensures) (omega arith) (s .pre) in
-    let two = labelled-room _ _ 40 (second .put-labelled2 .ensures) (omega arith) one in
-    let three = labelled-room _ _ 26 (third .put-labelled3 .ensures) (omega arith) two in
-    let four = room-left 6 20 (word .put .ensures) (omega arith) three in
-    omega arith
+put-part-requires c κs = omega (arith, four (c .before .before .before))
 
 slice-aggregate-put-labelled-4 : tie.Need-slice-aggregate-put-labelled-4
 slice-aggregate-put-labelled-4 c = search needs
 
 put-labelled-requires-4 : tie.Need-put-labelled-requires-4
-put-labelled-requires-4 c κs =
-    let part = c .before .before .before .before in
-    let word = part .before .before .before .before in
-    let third = word .before .before .before .before .before in
-    let second = third .before .before .before .before .before in
-    let first = second .before .before .before .before .before in
-    let s = first .before .before .before .before in
-    let one = labelled-room _ _ 54 (first .put-labelled .ensures) (omega arith) (s .pre) in
-    let two = labelled-room _ _ 40 (second .put-labelled2 .ensures) (omega arith) one in
-    let three = labelled-room _ _ 26 (third .put-labelled3 .ensures) (omega arith) two in
-    let four = room-left 6 20 (word .put .ensures) (omega arith) three in
-    let five = room-left 5 15 (part .put-part .ensures) (part-short (s .args .counts .used)) four in
-    omega arith
+put-labelled-requires-4 c κs = omega (arith, five (c .before .before .before .before))
 
 put-byte-requires : tie.Need-put-byte-requires
-put-byte-requires c κs =
-    let ceiling = c .before .before .before in
-    let part = ceiling .before .before .before .before .before in
-    let word = part .before .before .before .before in
-    let third = word .before .before .before .before .before in
-    let second = third .before .before .before .before .before in
-    let first = second .before .before .before .before .before in
-    let s = first .before .before .before .before in
-    let one = labelled-room _ _ 54 (first .put-labelled .ensures) (omega arith) (s .pre) in
-    let two = labelled-room _ _ 40 (second .put-labelled2 .ensures) (omega arith) one in
-    let three = labelled-room _ _ 26 (third .put-labelled3 .ensures) (omega arith) two in
-    let four = room-left 6 20 (word .put .ensures) (omega arith) three in
-    let five = room-left 5 15 (part .put-part .ensures) (part-short (s .args .counts .used)) four in
-    let six = labelled-room _ _ 1 (ceiling .put-labelled4 .ensures) (omega arith) five in
-    omega arith
+put-byte-requires c κs = omega (arith, six (c .before .before .before))
 
 same-length : tie.Need-same-length
 same-length c = search needs
