@@ -162,20 +162,20 @@ static void time_book(size_t circuits) {
              std::memcpy(buffer.data(), bytes.data(), bytes.size());
          }));
     if (circuits == 0) return;
-    line("load, remove and store", circuits,
+    std::memcpy(buffer.data(), stored.data(), stored.size());
+    // A pending record has no stored form: the removal is refused by 25, behind its own grounds.
+    line("load and remove (25)", circuits,
          microseconds([&] {
-             std::memcpy(buffer.data(), stored.data(), stored.size());
-             if (tarziloen_book_remove(buffer.data(), buffer.size(), stored.size(), some, values, 4) != 0) std::exit(1);
+             if (tarziloen_book_remove(buffer.data(), buffer.size(), stored.size(), some, values, 4) != 25) std::exit(1);
          }),
          microseconds([&] {
              Book book = decode(stored);
-             for (size_t i = 0; i < book.live.size(); i++)
-                 if (book.live[i].serial == some) {
-                     book.live.erase(book.live.begin() + long(i));
+             for (Circuit& c : book.live)
+                 if (c.serial == some) {
+                     c.fate = 0;
                      break;
                  }
-             Bytes bytes = encode(book);
-             std::memcpy(buffer.data(), bytes.data(), bytes.size());
+             values[0] = book.live.back().fate;
          }));
 }
 

@@ -31,7 +31,7 @@
  *    9  the way is not 0 (plain) or 1 (seam)
  *   10  the colour is w or more
  *   11  the colour is held on a link of the way
- *   12  512 circuits are live, and the book has no other place
+ *   12  512 circuits are live or pending, and the book has no other place
  *   13  serial 65,535 has been given
  *   14  the serial is 0 or was never given
  *   15  the order was removed
@@ -46,6 +46,9 @@
  *       printed, by tarziloen_answer
  *   22  no line or more than 16, or a number of entries that is no multiple of
  *       four; in tarziloen_book_preview
+ *   23  the circuit is live; in tarziloen_book_confirm
+ *   24  the order was already confirmed; in tarziloen_book_confirm
+ *   25  a book with a pending record cannot be stored; in tarziloen_book_remove
  *
  * A refused call changes neither plan table nor buffer. The values of a call go
  * to the first entries of `values`; where it has fewer, as many as fit are
@@ -116,6 +119,14 @@ size_t tarziloen_answer(const uint8_t *text, size_t text_length,
  * multiple of 512 and at most 5,120 bytes. A change reads it there, acts, and
  * writes it back; the bytes behind the stored form stay as they are. A buffer
  * of TARZILOEN_BOOK_BYTES has room for every book.
+ *
+ * A record of a book is live or pending. A removal leaves it pending: its place
+ * and its colour stay held until the pull of its patch is confirmed. The stored
+ * form cannot hold a pending record, so every record in a buffer is live, a
+ * removal that the book would accept is refused by 25 and changes nothing, and
+ * a confirmation finds nothing to free. A serial that was given and has no
+ * record in the stored form, as in forms from the time when a removal freed
+ * the colour at once, is answered by 15, and its confirmation by 24.
  */
 
 /*
@@ -143,17 +154,33 @@ uint16_t tarziloen_book_grant(uint8_t *buffer, size_t buffer_length,
                               uint16_t *values, size_t values_length);
 
 /*
- * Removes an order: its colour is free again on every link of its way.
+ * Removes an order, which leaves its record pending. The stored form cannot
+ * hold that, so the removal of a live order is refused by 25, and the order
+ * stays live.
  *
  * In: the first `length` bytes of `buffer`, the book; the serial of the order.
- * Out: `buffer`, the book without it. Values: the length of the stored form.
- * Refused: 18, 19, 20, then 14, 15. The stored form never grows, so 17 does
- * not come.
+ * Out: `buffer`, the book with the order pending. Values: the length of the
+ * stored form. Neither is ever given, since one of the grounds always holds.
+ * Refused: 18, 19, 20, then 14, 15, then 25.
  */
 uint16_t tarziloen_book_remove(uint8_t *buffer, size_t buffer_length,
                                size_t length,
                                uint16_t serial,
                                uint16_t *values, size_t values_length);
+
+/*
+ * Confirms that the patch of a removed order is pulled, which frees its place
+ * and its colour on every link of its way.
+ *
+ * In: the first `length` bytes of `buffer`, the book; the serial of the order.
+ * Out: `buffer`, the book without it. Values: the length of the stored form.
+ * Neither is ever given, since no record in the stored form is pending.
+ * Refused: 18, 19, 20, then 14, then 23 for a live order, 24 for every other.
+ */
+uint16_t tarziloen_book_confirm(uint8_t *buffer, size_t buffer_length,
+                                size_t length,
+                                uint16_t serial,
+                                uint16_t *values, size_t values_length);
 
 /*
  * Shows an order.

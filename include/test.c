@@ -1,7 +1,7 @@
 /*
- * Calls every function of tarziloen.h, on cases T1, T5 and T7 of the rules, on a
- * bundle and on the refusals of a book in a buffer; prints each answer that is
- * another one.
+ * Calls every function of tarziloen.h, on cases T1 and T5 of the rules, on T7 as
+ * far as a stored form can hold it, on a bundle and on the refusals of a book in
+ * a buffer; prints each answer that is another one.
  *
  * From the top folder, after `rt staticlib export`:
  *
@@ -94,24 +94,60 @@ static void book(void)
     memcpy(before, buffer, sizeof buffer);
     expect("{1,3}", tarziloen_book_grant(buffer, sizeof buffer, 1024, 1, 3, 0, 0, values, 4), 11);
     expect("same buffer", memcmp(buffer, before, sizeof buffer) == 0, 1);
-    expect("remove 1", tarziloen_book_remove(buffer, sizeof buffer, 1024, 1, values, 4), 0);
-    expect("length after it", values[0], 1024);
     expect("{0,2} seam", tarziloen_book_grant(buffer, sizeof buffer, 1024, 0, 2, 1, 0, values, 4), 11);
-    expect("{0,1}", tarziloen_book_grant(buffer, sizeof buffer, 1024, 1, 0, 0, 0, values, 4), 0);
+    expect("{0,3} seam", tarziloen_book_grant(buffer, sizeof buffer, 1024, 3, 0, 1, 0, values, 4), 0);
     expect("its serial", values[0], 3);
-    expect("show 1", tarziloen_book_show(buffer, 1024, 1, values, 4), 15);
     expect("show 4", tarziloen_book_show(buffer, 1024, 4, values, 4), 14);
     expect("show 2", tarziloen_book_show(buffer, 1024, 2, values, 4), 0);
     expect("a", values[0], 2);
     expect("b", values[1], 3);
     expect("way", values[2], 0);
     expect("colour", values[3], 0);
-    expect("link 0", tarziloen_book_holder(buffer, 1024, 0, 0, values, 4), 0);
+    expect("link 3", tarziloen_book_holder(buffer, 1024, 3, 0, values, 4), 0);
     expect("its holder", values[0], 3);
-    expect("link 1", tarziloen_book_holder(buffer, 1024, 1, 0, values, 4), 0);
-    expect("free", values[0], 0);
     expect("link 4", tarziloen_book_holder(buffer, 1024, 4, 0, values, 4), 16);
     expect("colour 1", tarziloen_book_holder(buffer, 1024, 0, 1, values, 4), 10);
+}
+
+/* Counts one grant more in a stored form, and puts its check right: the form has no record of that order. */
+static void lapse(uint8_t *form)
+{
+    unsigned check = (form[510] + 256u * form[511] + 5) % 65521;
+
+    form[4]++;
+    form[510] = (uint8_t)(check % 256);
+    form[511] = (uint8_t)(check / 256);
+}
+
+static void removal(void)
+{
+    uint8_t buffer[TARZILOEN_BOOK_BYTES] = {0};
+    uint8_t before[TARZILOEN_BOOK_BYTES];
+    uint16_t values[2] = {0};
+
+    expect("open", tarziloen_book_open(4, 1, buffer, sizeof buffer, values, 2), 0);
+    expect("{0,2}", tarziloen_book_grant(buffer, sizeof buffer, 512, 0, 2, 0, 0, values, 2), 0);
+    lapse(buffer);
+    memcpy(before, buffer, sizeof buffer);
+    values[0] = 7;
+    expect("remove 0", tarziloen_book_remove(buffer, sizeof buffer, 1024, 0, values, 2), 14);
+    expect("remove 3", tarziloen_book_remove(buffer, sizeof buffer, 1024, 3, values, 2), 14);
+    expect("remove 2", tarziloen_book_remove(buffer, sizeof buffer, 1024, 2, values, 2), 15);
+    expect("remove 1", tarziloen_book_remove(buffer, sizeof buffer, 1024, 1, values, 2), 25);
+    expect("remove 1 again", tarziloen_book_remove(buffer, sizeof buffer, 1024, 1, values, 2), 25);
+    expect("confirm 0", tarziloen_book_confirm(buffer, sizeof buffer, 1024, 0, values, 2), 14);
+    expect("confirm 3", tarziloen_book_confirm(buffer, sizeof buffer, 1024, 3, values, 2), 14);
+    expect("confirm 1", tarziloen_book_confirm(buffer, sizeof buffer, 1024, 1, values, 2), 23);
+    expect("confirm 2", tarziloen_book_confirm(buffer, sizeof buffer, 1024, 2, values, 2), 24);
+    expect("show 2", tarziloen_book_show(buffer, 1024, 2, values, 2), 15);
+    expect("untouched values", values[0], 7);
+    expect("same buffer", memcmp(buffer, before, sizeof buffer) == 0, 1);
+    expect("link 0", tarziloen_book_holder(buffer, 1024, 0, 0, values, 2), 0);
+    expect("held as before", values[0], 1);
+    expect("link 2", tarziloen_book_holder(buffer, 1024, 2, 0, values, 2), 0);
+    expect("free", values[0], 0);
+    expect("{2,3}", tarziloen_book_grant(buffer, sizeof buffer, 1024, 2, 3, 0, 0, values, 2), 0);
+    expect("its serial", values[0], 3);
 }
 
 static void preview(void)
@@ -166,12 +202,15 @@ static void refusals(void)
     expect("open", tarziloen_book_open(4, 1, buffer, sizeof buffer, values, 2), 0);
     expect("no room for a circuit", tarziloen_book_grant(buffer, 1023, 512, 0, 2, 0, 0, values, 2), 17);
     expect("length past the buffer", tarziloen_book_remove(buffer, 511, 512, 1, values, 2), 18);
+    expect("length past the buffer", tarziloen_book_confirm(buffer, 511, 512, 1, values, 2), 18);
     expect("length of no form", tarziloen_book_show(buffer, 511, 1, values, 2), 18);
     expect("length of no form", tarziloen_book_preview(buffer, 511, lines, 3, values, 2), 18);
     buffer[4] ^= 1;
     expect("changed byte", tarziloen_book_holder(buffer, 512, 0, 0, values, 2), 19);
     expect("changed byte", tarziloen_book_preview(buffer, 512, lines, 3, values, 2), 19);
     expect("changed byte", tarziloen_book_grant(buffer, sizeof buffer, 512, 0, 0, 2, 9, values, 2), 19);
+    expect("changed byte", tarziloen_book_remove(buffer, sizeof buffer, 512, 0, values, 2), 19);
+    expect("changed byte", tarziloen_book_confirm(buffer, sizeof buffer, 512, 0, values, 2), 19);
 }
 
 int main(void)
@@ -180,6 +219,7 @@ int main(void)
     spare_colour();
     answer();
     book();
+    removal();
     preview();
     refusals();
     printf(failures == 0 ? "ok\n" : "failed\n");

@@ -44,6 +44,10 @@ pub struct Stop {
 }
 
 /// A book, held as its stored form. Two books are equal if n, w, grants so far and live circuits agree.
+///
+/// A removal leaves a circuit pending: its place and its colour stay held until the pull of its patch is confirmed. The stored
+/// form cannot hold a pending record, so every record of this book is live. A removal that the book would accept is refused by 25
+/// and changes nothing, and a confirmation finds nothing to free.
 #[derive(Clone)]
 pub struct Book {
     buffer: [u8; Book::MAX_LENGTH],
@@ -90,13 +94,20 @@ impl Book {
         Ok(serial)
     }
 
-    /// Removes the circuit of a serial.
+    /// Removes the circuit of a serial, which would leave it pending: 14, 15, and for a live circuit 25.
     pub fn remove(&mut self, serial: u16) -> Result<(), Refusal> {
         self.length = buffers::remove(&mut self.buffer, self.length, serial)?;
         Ok(())
     }
 
-    /// Shows the circuit of a serial.
+    /// Confirms that the patch of a removed circuit is pulled, which frees its place and its colour: 14, 23 for a live circuit,
+    /// and 24 for one that the stored form no longer has.
+    pub fn confirm(&mut self, serial: u16) -> Result<(), Refusal> {
+        self.length = buffers::confirm(&mut self.buffer, self.length, serial)?;
+        Ok(())
+    }
+
+    /// Shows the circuit of a serial: 14, and 15 for one that the stored form no longer has.
     pub fn show(&self, serial: u16) -> Result<Circuit, Refusal> {
         buffers::show(self.bytes(), serial)
     }

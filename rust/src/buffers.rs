@@ -1,7 +1,10 @@
 //! A book in a buffer of the caller's, where its stored form is the first bytes.
 //!
 //! Each call loads the book, acts and stores it. Refusals of the load come first, then those of the
-//! operation, then 17 for a buffer with no room for the new form. Bytes past the new form stay.
+//! operation, then 25 for a book with a pending record, then 17 for a buffer with no room for the new
+//! form. Bytes past the new form stay.
+//!
+//! The stored form cannot hold a pending record, so every record in a buffer is live.
 
 use crate::refusals::{answered, answered_with};
 use crate::{raw, Circuit, Preview, Refusal, Stop, Way};
@@ -33,12 +36,24 @@ pub fn grant(
     .map(|values| (values[0], values[1] as usize))
 }
 
-/// Removes the circuit of a serial; gives the length of the new form.
+/// Removes the circuit of a serial, which leaves it pending; gives the length of the new form. The stored form cannot hold a
+/// pending record, so this is always refused: 25 for a live circuit, behind the load's refusals, 14 and 15.
 pub fn remove(buffer: &mut [u8], length: usize, serial: u16) -> Result<usize, Refusal> {
     let (start, room) = (buffer.as_mut_ptr(), buffer.len());
     // SAFETY: as in `grant`.
     answered(|values, count| unsafe {
         raw::tarziloen_book_remove(start, room, length, serial, values, count)
+    })
+    .map(|values| values[0] as usize)
+}
+
+/// Confirms that the patch of a removed circuit is pulled; gives the length of the new form. No record in a buffer is pending,
+/// so this is always refused: by the load's refusals, 14, 23 for a live circuit, or 24 for one that the form no longer has.
+pub fn confirm(buffer: &mut [u8], length: usize, serial: u16) -> Result<usize, Refusal> {
+    let (start, room) = (buffer.as_mut_ptr(), buffer.len());
+    // SAFETY: as in `grant`.
+    answered(|values, count| unsafe {
+        raw::tarziloen_book_confirm(start, room, length, serial, values, count)
     })
     .map(|values| values[0] as usize)
 }

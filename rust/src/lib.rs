@@ -12,6 +12,10 @@
 //! assert_eq!(refusal.ground(), "that colour is held on a link of the way");
 //! let stored = book.bytes().to_vec();
 //! assert_eq!(Book::from_bytes(&stored)?.holder(1, 0)?, Some(1));
+//! // A removal leaves its record pending, and the stored form cannot hold one: the book stays as it is.
+//! assert_eq!(book.remove(1).unwrap_err().number, 25);
+//! assert_eq!(book.confirm(1).unwrap_err().ground(), "the circuit is live");
+//! assert_eq!(book.bytes(), stored);
 //! # Ok::<(), ring_planner::Refusal>(())
 //! ```
 

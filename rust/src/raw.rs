@@ -48,6 +48,14 @@ extern "C" {
         values: *mut u16,
         values_len: usize,
     ) -> u16;
+    pub fn tarziloen_book_confirm(
+        buffer: *mut u8,
+        buffer_len: usize,
+        length: usize,
+        serial: u16,
+        values: *mut u16,
+        values_len: usize,
+    ) -> u16;
     pub fn tarziloen_book_show(
         bytes: *const u8,
         bytes_len: usize,

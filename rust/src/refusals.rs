@@ -25,7 +25,7 @@ impl Refusal {
             9 => "way not 0 (plain) or 1 (seam)",
             10 => "colour w or more",
             11 => "that colour is held on a link of the way",
-            12 => "512 circuits are live, and the book has no other place",
+            12 => "512 circuits are live or pending, and the book has no other place",
             13 => "serial 65,535 has been given",
             14 => "serial 0 or never given",
             15 => "removed",
@@ -39,6 +39,9 @@ impl Refusal {
             }
             21 => "more than 8,192 bytes, or a text not of the stated form",
             22 => "no line or more than 16",
+            23 => "the circuit is live",
+            24 => "already confirmed",
+            25 => "a book with a pending record cannot be stored",
             _ => "unknown",
         }
     }
@@ -82,10 +85,10 @@ mod tests {
             let values = [0, 0];
             Refusal { number, values }.ground()
         };
-        let mut all: Vec<&str> = (1..=22).map(words).collect();
+        let mut all: Vec<&str> = (1..=25).map(words).collect();
         all.sort();
         all.dedup();
-        assert_eq!(all.len(), 22);
-        assert!(!all.contains(&words(0)) && words(0) == words(23));
+        assert_eq!(all.len(), 25);
+        assert!(!all.contains(&words(0)) && words(0) == words(26));
     }
 }

@@ -1,52 +1,12 @@
-//! The book against a naive map, over long histories of calls, out of range and in too short buffers too.
+//! The book in its stored form against a naive map, over long histories of calls, out of range too.
 mod reference;
-
-use std::collections::BTreeMap;
 
 use reference::books::NaiveBook;
 use reference::draws::{draw, draw_grant, draw_serial};
-use reference::stored::{encode, load};
+use reference::stored::{change, encode, load};
+use reference::tallies::Tally;
 use reference::Random;
-use ring_planner::{buffers, Book, Refusal, Way};
-
-/// How often each answer came: 0 for success, else the refusal's number.
-#[derive(Default)]
-struct Tally(BTreeMap<u16, usize>);
-
-impl Tally {
-    /// Counts an answer that both gave.
-    fn agree<T: PartialEq + std::fmt::Debug>(
-        &mut self,
-        got: Result<T, Refusal>,
-        want: Result<T, u16>,
-    ) {
-        let got = got.map_err(|r| (r.number, r.values));
-        assert_eq!(got, want.map_err(|number| (number, [0, 0])));
-        *self
-            .0
-            .entry(got.err().map_or(0, |(number, _)| number))
-            .or_default() += 1;
-    }
-
-    /// One line; every number that is named must have come.
-    fn report(&self, title: &str, expected: &[u16]) {
-        for number in expected {
-            assert!(
-                self.0.contains_key(number),
-                "{title}: never refused {number}"
-            );
-        }
-        let counts: Vec<String> = self
-            .0
-            .iter()
-            .map(|(number, count)| match number {
-                0 => format!("{count} done"),
-                _ => format!("{count} refused {number}"),
-            })
-            .collect();
-        println!("{title}: {}", counts.join(", "));
-    }
-}
+use ring_planner::{Book, Refusal, Way};
 
 /// A book, its naive fellow, and what came of the calls so far.
 struct Pair {
@@ -77,9 +37,24 @@ impl Pair {
         self.tally.agree(got, want);
     }
 
+    /// The stored form cannot hold what a removal leaves: one that the naive book makes is refused by 25.
     fn remove(&mut self, serial: u16) {
         let got = self.book.remove(serial);
-        self.tally.agree(got, self.naive.remove(serial));
+        let want = change(&mut self.naive, |naive| naive.remove(serial));
+        self.tally.agree(got, want);
+    }
+
+    fn confirm(&mut self, serial: u16) {
+        let got = self.book.confirm(serial);
+        let want = change(&mut self.naive, |naive| naive.confirm(serial));
+        self.tally.agree(got, want);
+    }
+
+    /// An order that was removed and confirmed, in a form that only the second writer can write.
+    fn lapse(&mut self, serial: u16) {
+        if self.naive.lapse(serial).is_ok() {
+            self.book = Book::from_bytes(&encode(&self.naive)).unwrap();
+        }
     }
 
     fn show(&mut self, serial: u16) {
@@ -108,20 +83,28 @@ impl Pair {
             15 => self.holder(draw(random, n), draw(random, w)),
             _ => {
                 let serial = draw_serial(random, &self.naive);
-                self.remove(serial);
+                match random.below(4) {
+                    0 => self.remove(serial),
+                    1 => self.confirm(serial),
+                    _ => self.lapse(serial),
+                }
             }
         }
         assert!(self.book.bytes() == encode(&self.naive), "the stored form");
     }
 
-    /// Every link and colour's holder, each of the serials, and the way through the stored form.
+    /// Every link and colour's holder, every call on each of the serials, and the way through the stored form.
     fn compare(&mut self, serials: impl Iterator<Item = u16>) {
         for link in 0..=self.naive.n {
             for colour in 0..=self.naive.w {
                 self.holder(link, colour);
             }
         }
-        serials.for_each(|serial| self.show(serial));
+        for serial in serials {
+            self.show(serial);
+            self.remove(serial);
+            self.confirm(serial);
+        }
         let loaded = Book::from_bytes(self.book.bytes()).unwrap();
         assert!(loaded == self.book && load(self.book.bytes()) == Ok(self.naive.clone()));
         self.book = loaded;
@@ -150,7 +133,10 @@ fn histories_agree_with_a_map() {
         let want = NaiveBook::open(n, w).map(|naive| encode(&naive));
         tally.agree(Book::open(n, w).map(|b| b.bytes().to_vec()), want);
     }
-    tally.report("histories", &[0, 1, 2, 4, 5, 10, 11, 14, 15, 16]);
+    tally.report(
+        "histories",
+        &[0, 1, 2, 4, 5, 10, 11, 14, 15, 16, 23, 24, 25],
+    );
 }
 
 /// A book of 256 nodes with 512 live circuits.
@@ -172,7 +158,10 @@ fn a_full_book_and_the_last_serial() {
     let grants = pair.naive.grants;
     pair.compare((0..=grants + 1).step_by(7));
     let mut tally = std::mem::take(&mut pair.tally);
-    tally.report("a full book", &[0, 4, 5, 10, 11, 12, 14, 15, 16]);
+    tally.report(
+        "a full book",
+        &[0, 4, 5, 10, 11, 12, 14, 15, 16, 23, 24, 25],
+    );
     // Every later history starts from a stored form that says how many grants there were.
     for (grants, steps) in [(65535, 50), (65500, 400)] {
         let mut naive = pair.naive.clone();
@@ -200,93 +189,29 @@ fn a_full_book_and_the_last_serial() {
     tally.report("and the last serial", &[12, 13]);
 }
 
-/// The calls on a buffer as the rules have them: load, act, store.
-fn naive_call<T>(
-    buffer: &mut [u8],
-    length: usize,
-    act: impl FnOnce(&mut NaiveBook) -> Result<T, u16>,
-) -> Result<(T, usize), u16> {
-    let mut book = load(buffer.get(..length).ok_or(18u16)?)?;
-    let answer = act(&mut book)?;
-    let form = encode(&book);
-    buffer
-        .get_mut(..form.len())
-        .ok_or(17u16)?
-        .copy_from_slice(&form);
-    Ok((answer, form.len()))
-}
-
-/// One call on a buffer and on its copy; gives the length of the form afterwards.
-fn buffer_call(random: &mut Random, buffer: &mut [u8], length: usize, tally: &mut Tally) -> usize {
-    let mut copy = buffer.to_vec();
-    let told = match random.below(24) {
-        0 => random.below(6200) as usize,
-        1 => 512 * random.below(12) as usize,
-        2 => usize::MAX - random.below(512) as usize,
-        _ => length,
-    };
-    let after = if random.below(8) < 6 {
-        let (ends, way, colour) = draw_grant(random, 64, 8);
-        let got = buffers::grant(buffer, told, ends, way, colour);
-        let want = naive_call(&mut copy, told, |b| b.grant(ends, way, colour));
-        tally.agree(got, want);
-        want.map(|(_, length)| length)
-    } else {
-        let serial = random.below(200) as u16;
-        let got = buffers::remove(buffer, told, serial);
-        let want = naive_call(&mut copy, told, |b| b.remove(serial));
-        tally.agree(got, want.map(|(_, length)| length));
-        want.map(|(_, length)| length)
-    };
-    assert!(buffer == copy, "all of the buffer");
-    after.unwrap_or(length)
-}
-
+/// Case T7 of the rules in its stored form: the removal is refused, and the rest is about a form in which it was made and confirmed.
 #[test]
-fn lent_buffers_of_every_size() {
-    let mut random = Random::new(6);
-    let mut tally = Tally::default();
-    for size in (0..512)
-        .step_by(73)
-        .chain((512..2700).step_by(211))
-        .chain([1023, 1024, 1535, 1536])
-    {
-        let mut buffer: Vec<u8> = (0..size).map(|_| random.below(256) as u8).collect();
-        let mut copy = buffer.clone();
-        let want = match encode(&NaiveBook::open(64, 8).unwrap()) {
-            form if form.len() > size => Err(17),
-            form => {
-                copy[..form.len()].copy_from_slice(&form);
-                Ok(form.len())
-            }
-        };
-        tally.agree(buffers::open(64, 8, &mut buffer), want);
-        tally.agree(buffers::open(2, 8, &mut buffer), Err(1));
-        tally.agree(buffers::open(64, 129, &mut buffer), Err(2));
-        assert!(buffer == copy, "all of the buffer");
-        let mut length = want.unwrap_or(0);
-        for _ in 0..400 {
-            length = buffer_call(&mut random, &mut buffer, length, &mut tally);
-        }
-    }
-    tally.report(
-        "lent buffers",
-        &[0, 1, 2, 4, 5, 9, 10, 11, 14, 15, 17, 18, 19, 20],
-    );
-}
-
-/// Case T7 of the rules.
-#[test]
-fn case_t7() {
+fn case_t7_in_the_stored_form() {
+    let number = |refusal: Refusal| refusal.number;
     let mut book = Book::open(4, 1).unwrap();
-    let mut grant = |x, y, way| book.grant(x, y, way, 0).map_err(|r| r.number);
+    let mut grant = |x, y, way| book.grant(x, y, way, 0).map_err(number);
     assert_eq!(grant(0, 2, Way::Plain), Ok(1));
     assert_eq!(grant(2, 3, Way::Plain), Ok(2));
     assert_eq!(grant(1, 3, Way::Plain), Err(11));
-    book.remove(1).unwrap();
-    let mut grant = |x, y, way| book.grant(x, y, way, 0).map_err(|r| r.number);
+    let before = book.clone();
+    assert_eq!(book.confirm(1).map_err(number), Err(23));
+    assert_eq!(book.remove(1).map_err(number), Err(25));
+    assert_eq!(book.confirm(1).map_err(number), Err(23));
+    assert_eq!(book.holder(0, 0), Ok(Some(1)));
+    assert_eq!(book, before, "the order is live as before");
+    let mut naive = load(book.bytes()).unwrap();
+    naive.lapse(1).unwrap();
+    let mut book = Book::from_bytes(&encode(&naive)).unwrap();
+    let mut grant = |x, y, way| book.grant(x, y, way, 0).map_err(number);
     assert_eq!(grant(0, 2, Way::Seam), Err(11));
     assert_eq!(grant(0, 1, Way::Plain), Ok(3));
-    assert_eq!(book.show(1).map_err(|r| r.number), Err(15));
-    assert_eq!(book.show(4).map_err(|r| r.number), Err(14));
+    assert_eq!(book.show(1).map_err(number), Err(15));
+    assert_eq!(book.remove(1).map_err(number), Err(15));
+    assert_eq!(book.confirm(1).map_err(number), Err(24));
+    assert_eq!(book.show(4).map_err(number), Err(14));
 }

@@ -5,9 +5,9 @@ use std::collections::BTreeMap;
 
 use reference::books::NaiveBook;
 use reference::draws::draw_grant;
-use reference::stored::{encode, load, put, seal, word, BLOCK};
+use reference::stored::{change, encode, load, put, seal, word, BLOCK};
 use reference::Random;
-use ring_planner::{buffers, Book};
+use ring_planner::{buffers, Book, Refusal};
 
 /// The loader's verdict: the refusal's number, or none.
 fn verdict(bytes: &[u8]) -> Option<u16> {
@@ -18,14 +18,14 @@ fn verdict(bytes: &[u8]) -> Option<u16> {
     number
 }
 
-/// A book with some live circuits, and removals in its past.
+/// A book with some live circuits, and removals in its past that were confirmed.
 fn book(random: &mut Random, n: u16, w: u16, live: usize) -> NaiveBook {
     let mut book = NaiveBook::open(n, w).unwrap();
     while book.live.len() < live {
         let (ends, way, colour) = draw_grant(random, n, w);
         if let Ok(serial) = book.grant(ends, way, colour) {
             if random.below(4) == 0 {
-                book.remove(serial).unwrap();
+                book.lapse(serial).unwrap();
             }
         }
     }
@@ -104,9 +104,23 @@ fn repair(bytes: &mut [u8]) {
     }
 }
 
+/// A removal and a confirmation of the serial are refused as the naive book's are.
+fn same_refusals(loaded: &mut Book, naive: &NaiveBook, serial: u16) {
+    let number = |answer: Result<(), Refusal>| answer.map_err(|r| r.number);
+    let mut naive = naive.clone();
+    let removed = change(&mut naive, |book| book.remove(serial));
+    assert_eq!(number(loaded.remove(serial)), removed);
+    let confirmed = change(&mut naive, |book| book.confirm(serial));
+    assert_eq!(number(loaded.confirm(serial)), confirmed);
+}
+
 /// The book of the file is the one that the naive loader reads.
 fn same_book(bytes: &[u8], naive: &NaiveBook) {
-    let loaded = Book::from_bytes(bytes).unwrap();
+    let mut loaded = Book::from_bytes(bytes).unwrap();
+    let first = naive.live.keys().next().copied().unwrap_or(1);
+    for serial in [0, first, first.wrapping_add(1), naive.grants] {
+        same_refusals(&mut loaded, naive, serial);
+    }
     assert_eq!(loaded.bytes(), encode(naive));
     for serial in [0, naive.grants, naive.grants.wrapping_add(1)]
         .iter()

@@ -111,7 +111,7 @@ fn preview(naive: &NaiveBook, lines: &[[u16; 4]]) -> Previewed {
     agree(naive, lines, 19).unwrap()
 }
 
-/// A book with a history of grants and removals.
+/// A book with a history of grants, and of removals that were confirmed.
 fn draw_book(random: &mut Random) -> NaiveBook {
     let small = random.below(2) == 0;
     let n = 3 + random.below(if small { 8 } else { 254 }) as u16;
@@ -121,7 +121,7 @@ fn draw_book(random: &mut Random) -> NaiveBook {
         let (ends, way, colour) = draw_grant(random, n, w);
         if let Ok(serial) = naive.grant(ends, way, colour) {
             if random.below(3) == 0 {
-                naive.remove(serial).unwrap();
+                naive.lapse(serial).unwrap();
             }
         }
     }

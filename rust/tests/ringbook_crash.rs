@@ -49,29 +49,24 @@ fn killed_before_every_call() {
 fn on_disk_before_it_is_said() {
     let folder = Folder::new("ordered");
     let change = "create open read read close write fsync close open rename fsync folder close say";
+    let refused = "create open read read close close unlink say";
+    let question = "open read read close say";
     let cases = [
-        (desk_of(70), "remove 7", change.to_string()),
-        (desk_of(70), "grant 0 2 0 9", change.to_string()),
-        (
-            NaiveDesk::default(),
-            "open 4 1",
-            change.replace("read read close ", ""),
-        ),
-        (
-            desk_of(70),
-            "remove 71",
-            "create open read read close close unlink say".to_string(),
-        ),
-        (desk_of(70), "count", "open read read close say".to_string()),
-        (
-            desk_of(70),
-            "preview 0 2 0 9, 2 4 0 9",
-            "open read read close say".to_string(),
-        ),
-        (desk_of(70), "help", "say".to_string()),
+        ("grant 0 2 0 9", change),
+        ("grant 0 1 0 0", refused),
+        ("remove 71", refused),
+        ("remove 7", refused),
+        ("confirm 7", refused),
+        ("count", question),
+        ("preview 0 2 0 9, 2 4 0 9", question),
+        // There is nothing to say.
+        ("pending", "open read read close"),
+        ("help", "say"),
     ];
-    for (desk, line, want) in cases {
-        let calls = Story::new(desk, &[line]).calls(&folder);
+    for (line, want) in cases {
+        let calls = Story::new(desk_of(70), &[line]).calls(&folder);
         assert_eq!(calls.join(" "), want, "{line}");
     }
+    let opening = Story::new(NaiveDesk::default(), &["open 4 1"]).calls(&folder);
+    assert_eq!(opening.join(" "), change.replace("read read close ", ""));
 }

@@ -81,7 +81,7 @@ fn a_call_that_fails() {
                 if others.is_empty() {
                     assert!(may_go_unnoticed(&calls, k), "{name} failed unnoticed");
                 } else {
-                    // What follows from it may be answered otherwise too, as `remove 1` after a grant that was not stored.
+                    // What follows from it may be answered otherwise too, as `show 64` after a grant that was not stored.
                     assert!(others[0].ends_with(&format!(": {ground}\n")), "{others:?}");
                     assert_eq!(others.len(), 1, "{others:?}");
                     let unsure = others[0].contains("is not known to be on disk");
@@ -100,7 +100,8 @@ fn every_call_fails_from_one_on() {
     let folder = Folder::new("dead");
     let mut tried = 0;
     let story = &stories()[2];
-    let story = Story::new(story.desk.clone(), &["remove 7", "show 8", "remove 8"]);
+    let lines = ["grant 0 9 0 9", "show 8", "grant 9 18 0 9"];
+    let story = Story::new(story.desk.clone(), &lines);
     for k in 0..story.calls(&folder).len() {
         let run = story.run(&folder, &format!("dead {k} 5"));
         let (desk, _) = follow(&story, &run.output);
@@ -114,7 +115,7 @@ fn every_call_fails_from_one_on() {
 #[test]
 fn the_next_session_keeps_its_new_file() {
     let folder = Folder::new("rival");
-    let story = Story::new(desk_of(70), &["remove 7"]);
+    let story = Story::new(desk_of(70), &["grant 0 2 0 9"]);
     let calls = story.calls(&folder);
     let k = calls
         .iter()
@@ -129,7 +130,7 @@ input or output error\n"
     assert_eq!(folder.bytes("book"), story.after(1).bytes());
     assert_eq!(folder.bytes("book.new"), Some(vec![]), "it is not ours");
     let run = story.run(&folder, &format!("rival {} 5", k + 1));
-    assert_eq!(run.output, "removed 7\n");
+    assert_eq!(run.output, "granted 71\n");
     assert_eq!(folder.bytes("book.new"), Some(vec![]), "it is not ours");
 }
 
@@ -169,7 +170,7 @@ fn left_behind(folder: &Folder, story: &Story, k: usize) {
     let found = folder.bytes("book");
     let began = Instant::now();
     let want = desk.answers("count\n") + &busy("book") + &desk.answers("count\n");
-    assert_eq!(folder.answer("count\nremove 1\ncount\n"), want);
+    assert_eq!(folder.answer("count\ngrant 2 4 0 9\ncount\n"), want);
     let took = began.elapsed();
     assert!(took > Duration::from_millis(1700), "{took:?}");
     assert!(took < Duration::from_secs(20), "{took:?}");
@@ -180,7 +181,7 @@ fn left_behind(folder: &Folder, story: &Story, k: usize) {
 
 #[test]
 fn a_new_file_that_is_left_behind() {
-    let story = Story::new(desk_of(70), &["remove 7"]);
+    let story = Story::new(desk_of(70), &["grant 0 2 0 9"]);
     let calls = story.calls(&Folder::new("behind"));
     let place = |name: &str| calls.iter().position(|call| call == name).unwrap();
     let (made, placed) = (place("create"), place("rename"));
@@ -205,7 +206,8 @@ fn a_new_file_that_goes_away_in_time() {
             folder.put("book.new", &None);
         });
         let began = Instant::now();
-        assert_eq!(folder.answer("remove 7\n"), desk.answers("remove 7\n"));
+        let line = "grant 0 2 0 9\n";
+        assert_eq!(folder.answer(line), desk.answers(line));
         assert!(began.elapsed() > Duration::from_millis(600));
     });
     assert_eq!(folder.bytes("book"), desk.bytes());
@@ -215,11 +217,11 @@ fn a_new_file_that_goes_away_in_time() {
 #[test]
 fn a_new_file_that_cannot_be_removed() {
     let folder = Folder::new("stuck");
-    let story = Story::new(desk_of(70), &["remove 71", "count", "remove 7"]);
+    let story = Story::new(desk_of(70), &["remove 7", "count", "grant 0 2 0 9"]);
     let calls = story.calls(&folder);
     let place = calls.iter().position(|call| call == "unlink").unwrap();
     let run = story.run(&folder, &format!("fail {place} 5"));
-    let want = story.desk.clone().answers("remove 71\ncount\n") + &busy("book");
+    let want = story.desk.clone().answers("remove 7\ncount\n") + &busy("book");
     assert_eq!(run.output, want);
     assert_eq!(folder.bytes("book"), story.desk.bytes());
     assert!(folder.bytes("book.new").is_some());

@@ -33,11 +33,13 @@ fn files_that_are_no_book() {
         (form[..1024].to_vec(), 20),
         (vec![0; 512], 20),
     ];
-    let commands = "open 4 1\ngrant 0 1 0 0\npreview 0 1 0 0\npreview\nremove 1\nshow 1\nholder 0 0\ncount\nlist\n";
+    let commands =
+        "open 4 1\ngrant 0 1 0 0\npreview 0 1 0 0\npreview\nremove 1\nconfirm 1\nshow 1\nholder 0 0\ncount\nlist\npending\n";
+    let count = commands.lines().count();
     for (bytes, number) in files {
         let file = Some(bytes);
         folder.put("book", &file);
-        assert_eq!(folder.answer(commands), refused(number).repeat(9));
+        assert_eq!(folder.answer(commands), refused(number).repeat(count));
         assert_eq!(folder.answer("\nhelp\n"), HELP, "no file is needed");
         assert_eq!(folder.bytes("book"), file, "the file stays");
         assert_eq!(folder.bytes("book.new"), None);
@@ -151,18 +153,18 @@ fn a_folder_that_is_read_only() {
     };
     let mode = |bits: u32| fs::set_permissions(&place, fs::Permissions::from_mode(bits)).unwrap();
     mode(0o555);
-    let answers = session("count\nremove 7\ncount\n");
+    let answers = session("count\ngrant 0 1 0 3\ncount\n");
     let names = fs::read_dir(&place).unwrap().count();
     mode(0o777);
     let found = fs::read(place.join("book")).unwrap();
-    let later = session("remove 7\n");
+    let later = session("grant 0 1 0 3\n");
     fs::remove_dir_all(&place).unwrap();
     assert_eq!(
         answers,
         "live 70 grants 70\nerror nothing was changed, since book.new cannot be made: permission denied\nlive 70 grants 70\n"
     );
     assert!(names == 2 && found == form);
-    assert_eq!(later, "removed 7\n", "the same folder, writable");
+    assert_eq!(later, "granted 71\n", "the same folder, writable");
 }
 
 #[test]
@@ -171,16 +173,17 @@ fn questions_leave_the_file_alone() {
     folder.put("book", &Some(encode(&many(70, 90))));
     let inode = || fs::metadata(folder.file("book")).unwrap().ino();
     let before = inode();
-    folder
-        .answer("show 1\nholder 0 0\ncount\nlist\nremove 80\ngrant 0 0 0 0\nopen 3 1\nnonsense\n");
+    folder.answer("show 1\nholder 0 0\ncount\nlist\npending\ngrant 0 0 0 0\nopen 3 1\nnonsense\n");
+    folder.answer("remove 80\nremove 1\nconfirm 91\nconfirm 1\nconfirm 80\n");
     folder.answer("preview 0 1 0 3\npreview 0 1 0 3, 0 1 0 3\npreview 0 0 0 0\npreview\n");
     assert_eq!(inode(), before);
     // A question waits for nobody.
     folder.put("book.new", &Some(vec![7]));
     assert_eq!(folder.answer("count\n"), "live 70 grants 90\n");
     assert_eq!(folder.answer("preview 0 1 0 3\n"), "would grant 91\n");
+    assert_eq!(folder.answer("pending\n"), "");
     folder.put("book.new", &None);
-    folder.answer("remove 1\n");
+    folder.answer("grant 0 1 0 3\n");
     assert_ne!(inode(), before);
 }
 
@@ -223,7 +226,7 @@ fn a_file_of_that_name_already() {
     let form = Some(encode(&many(70, 70)));
     folder.put("book", &form);
     fs::create_dir(folder.file("book.new")).unwrap();
-    assert_eq!(folder.answer("remove 7\n"), busy("book"));
+    assert_eq!(folder.answer("grant 0 1 0 3\n"), busy("book"));
     assert_eq!(folder.bytes("book"), form);
     assert!(folder.file("book.new").is_dir());
 }

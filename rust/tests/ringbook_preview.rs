@@ -79,7 +79,7 @@ fn answers_in_words() {
         (many(5, 65535), "would grant none, line 0 refused 13"),
     ] {
         let ground = match answer.ends_with("12") {
-            true => "512 circuits are live, and the book has no other place",
+            true => "512 circuits are live or pending, and the book has no other place",
             false => "serial 65,535 has been given",
         };
         assert_eq!(

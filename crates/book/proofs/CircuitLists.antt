@@ -11,7 +11,7 @@ use lib.Seq.{getD-append-seam, getD-append-add, getD-take, getD-drop, length-tak
 use Rattle.ring.proofs.Cases.{compare, less, not-less}
 use Rattle.book.specs.declared.circuits.Circuit.{Circuit}
 use Rattle.book.specs.Circuits.{vacant, circuit, someCircuit}
-use Rattle.book.specs.Removals.{without}
+use Rattle.book.specs.Confirmations.{without}
 use Rattle.book.proofs.Forms.{length-without}
 
 -- one circuit more

@@ -1,4 +1,4 @@
--- The test for ground 11 by the ends of the live circuits is the sentence: the colour is held on a link of the way.
+-- The test for ground 11 by the ends of the records is the sentence: the colour is held on a link of the way.
 use Prim.Native.Nat.{ℕ, _<_}
 use mathlib.Core.Path.{_≡_, sym, _∙_}
 use mathlib.Core.Bool.{Bool, true, false, _&&_, true≢false}
@@ -13,7 +13,7 @@ use Rattle.ring.proofs.Cases.{and-true}
 use Rattle.ring.proofs.WayLaws.{same-test, Found, some-found, found-some, Shared, share-found, found-share, sharing-means}
 use Rattle.book.specs.declared.circuits.Circuit.{Circuit}
 use Rattle.book.specs.Circuits.{circuit, endsOf, holds}
-use Rattle.book.specs.Books.{liveOf}
+use Rattle.book.specs.Books.{recordsOf}
 use Rattle.book.specs.Grants.{heldIn, heldOnWay, colourHeld}
 use Rattle.book.specs.Internal.Conflicts.{conflicts, conflictIn, ConflictMeans}
 use Rattle.book.proofs.CircuitLists.{Place, some-place, place-some}
@@ -70,4 +70,4 @@ module _ (n : ℕ) (cs : List Circuit) (ends : (i : ℕ) → i < length cs → (
 
 pub conflict-means : ConflictMeans
 unfolding colourHeld
-conflict-means b v way r colour h₁ h₂ = conflict-held (b .n) (liveOf b) (v .circuits .ends) way r colour h₁ h₂
+conflict-means b v way r colour h₁ h₂ = conflict-held (b .n) (recordsOf b) (v .circuits .ends) way r colour h₁ h₂

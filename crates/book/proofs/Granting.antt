@@ -14,7 +14,7 @@ use Rattle.book.specs.declared.circuits.Circuit.{Circuit}
 use Rattle.book.specs.declared.books.Book.{Book}
 use Rattle.book.specs.declared.grants.Granted.{Granted}
 use Rattle.book.specs.declared.grants.GrantAnswer.the-variants as answer
-use Rattle.book.specs.Books.{liveOf, Valid}
+use Rattle.book.specs.Books.{recordsOf, Valid}
 use Rattle.book.specs.Grants.{wayOf, circuitOf, argumentVerdict, roomVerdict, grantVerdict, withCircuit, grantUnless, granted}
 use Rattle.book.specs.Grants.{GrantPromise}
 use Rattle.book.specs.Internal.Conflicts.{conflictIn, verdictByEnds}
@@ -27,9 +27,9 @@ next-serial : (grants : ℕ) → grants < 65535 → nextSerial grants ≡ grants
 unfolding nextSerial
 next-serial grants h = simp (lt-ltb grants 65535 h)
 
-entered-with : (b : Book) (c : Circuit) → b .live < 512 → b .grants < 65535 → entered b c ≡ withCircuit b c
+entered-with : (b : Book) (c : Circuit) → b .records < 512 → b .grants < 65535 → entered b c ≡ withCircuit b c
 unfolding entered
-entered-with b c h k = simp (lt-leb 512 (b .live) h, next-serial (b .grants) k)
+entered-with b c h k = simp (lt-leb 512 (b .records) h, next-serial (b .grants) k)
 
 -- two verdicts are one if what follows the first is one wherever the first allows it
 or-else-same : (v p q : Verdict) → (v ≡ verdict.Allowed → p ≡ q) → orElse v p ≡ orElse v q
@@ -37,12 +37,12 @@ or-else-same verdict.Allowed p q h = h refl
 or-else-same (verdict.Refused r) p q h = refl
 
 -- a verdict that allows says that there is a place and a serial
-room-there : (b : Book) (x y way colour : ℕ) → verdictByEnds b x y way colour ≡ verdict.Allowed → (b .live < 512) × (b .grants < 65535)
+room-there : (b : Book) (x y way colour : ℕ) → verdictByEnds b x y way colour ≡ verdict.Allowed → (b .records < 512) × (b .grants < 65535)
 unfolding verdictByEnds
 room-there b x y way colour e =
-    let room = roomVerdict (b .live) (b .grants) in
-    let held = refuseIf (conflictIn (liveOf b) (wayOf way) (requestOf x y) colour) ColourHeld in
-    good-room (b .live) (b .grants)
+    let room = roomVerdict (b .records) (b .grants) in
+    let held = refuseIf (conflictIn (recordsOf b) (wayOf way) (requestOf x y) colour) ColourHeld in
+    good-room (b .records) (b .grants)
     (both-allowed held room (both-allowed (argumentVerdict (b .n) (b .w) x y way colour) (orElse held room) e .1) .1)
 
 module _ (b : Book) (x y way colour : ℕ) where
@@ -51,7 +51,7 @@ module _ (b : Book) (x y way colour : ℕ) where
   verdict-means v =
       or-else-same (argumentVerdict (b .n) (b .w) x y way colour) _ _ (λ e.
       let g : GoodArguments (b .n) (b .w) x y way colour = good-arguments (b .n) (b .w) x y way colour e in
-      ap (λ (t : Bool). orElse (refuseIf t ColourHeld) (roomVerdict (b .live) (b .grants)))
+      ap (λ (t : Bool). orElse (refuseIf t ColourHeld) (roomVerdict (b .records) (b .grants)))
       (conflict-means b v (wayOf way) (requestOf x y) colour (g .ordered) (g .nodes)))
 
   -- the promise, from the answer that a verdict by ends leads to
@@ -64,7 +64,8 @@ module _ (b : Book) (x y way colour : ℕ) where
     arguments = λ ground e. m
         ∙ ap (λ (t : Verdict).
         grantUnless (orElse t
-        (orElse (refuseIf (conflictIn (liveOf b) (wayOf way) (requestOf x y) colour) ColourHeld) (roomVerdict (b .live) (b .grants)))) b
+        (orElse (refuseIf (conflictIn (recordsOf b) (wayOf way) (requestOf x y) colour) ColourHeld)
+        (roomVerdict (b .records) (b .grants)))) b
         (circuitOf (b .grants + 1) x y way colour)) e;
     valid = λ v. m ∙ ap (λ (t : Verdict). grantUnless t b (circuitOf (b .grants + 1) x y way colour)) (verdict-means v);
   }

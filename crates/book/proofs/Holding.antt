@@ -1,65 +1,68 @@
--- The holder of a colour on a link is the one live circuit that holds it.
+-- The holder of a colour on a link is the one record, live or pending, that holds it.
 use Prim.Native.Nat.{ℕ, zero, suc, _+_, _-_, _≤_, _<_}
 use mathlib.Core.Path.{_≡_, refl, sym, _∙_, ap}
-use mathlib.Core.Bool.{Bool, true, false, cond, true≢false}
-use mathlib.Core.List.{List, [], _∷_}
+use mathlib.Core.Bool.{Bool, true, false, cond}
+use mathlib.Core.List.{List, [], _∷_, map}
 use native.Mathlib.Omega.{arith}
 use lib.Dec.{ltb}
 use lib.ListN.{length, take, getD}
 use borrow.Author.Tests.{lt-leb, lt-ltb, le-ltb}
-use Rattle.ring.proofs.Cases.{is, yes, no}
+use Rattle.ring.proofs.Cases.{is, yes, no, compare, less, not-less, impossible}
 use Rattle.ring.specs.declared.refusals.Verdict.the-variants.{Allowed}
 use Rattle.book.specs.declared.circuits.Circuit.{Circuit}
 use Rattle.book.specs.declared.books.Book.{Book}
 use Rattle.book.specs.declared.holders.HolderAnswer.{HolderAnswer}
 use Rattle.book.specs.declared.holders.HolderAnswer.the-variants.{Free, Held}
-use Rattle.book.specs.declared.orders.ShowAnswer.the-variants as show
 use Rattle.book.specs.Circuits.{vacant, circuit, holds}
-use Rattle.book.specs.Books.{liveOf, Valid}
-use Rattle.book.specs.Orders.{shown}
+use Rattle.book.specs.Books.{recordsOf, Valid}
 use Rattle.book.specs.Holders.{holderIn, holderVerdict, heldBy}
+use Rattle.book.specs.Confirmations.{without, withoutCircuit}
 use Rattle.book.specs.Internal.Places.{holderPlace}
-use Rattle.book.proofs.Places.{live-at, live-take}
+use Rattle.book.proofs.Places.{record-at, records-take}
 use Rattle.book.proofs.Searches.{holder-answer}
-use Rattle.book.proofs.Showing.{shown-is, shown-given, ShownAt, shown-at, live-shown}
+use Rattle.book.proofs.Forms.{records-form, without-form}
+use Rattle.book.proofs.CircuitLists.{all-without}
+use Rattle.book.proofs.States.{asGranted, Alike}
 
 -- neither 16 nor 10
 pub in-range : (b : Book) (link colour : ℕ) → link < b .n → colour < b .w → holderVerdict b link colour ≡ Allowed
 unfolding holderVerdict
 in-range b link colour h k = simp (lt-leb (b .n) link h, lt-leb (b .w) colour k)
 
-held-allowed : (b : Book) (link colour : ℕ) → holderVerdict b link colour ≡ Allowed → heldBy b link colour ≡ holderIn (liveOf b) link colour
+held-allowed : (b : Book) (link colour : ℕ) → holderVerdict b link colour ≡ Allowed
+    → heldBy b link colour ≡ holderIn (recordsOf b) link colour
 unfolding heldBy
 held-allowed b link colour e = simp e
 
-pub held-in-range : (b : Book) (link colour : ℕ) → link < b .n → colour < b .w → heldBy b link colour ≡ holderIn (liveOf b) link colour
+pub held-in-range : (b : Book) (link colour : ℕ) → link < b .n → colour < b .w → heldBy b link colour ≡ holderIn (recordsOf b) link colour
 held-in-range b link colour h k = held-allowed b link colour (in-range b link colour h k)
 
 -- the answer from the place that the search gives
 module _ (b : Book) (link colour place : ℕ) (allowed : holderVerdict b link colour ≡ Allowed)
-    (e : place ≡ holderPlace 0 (take (length (liveOf b)) (b .places)) link colour) where
-  answer-at : heldBy b link colour ≡ cond (ltb place (length (liveOf b))) (Held (circuit (liveOf b) place .serial)) Free
+    (e : place ≡ holderPlace 0 (take (length (recordsOf b)) (b .places)) link colour) where
+  answer-at : heldBy b link colour ≡ cond (ltb place (length (recordsOf b))) (Held (circuit (recordsOf b) place .serial)) Free
   answer-at =
-      let q : holderPlace 0 (liveOf b) link colour ≡ place = ap (λ (cs : List Circuit). holderPlace 0 cs link colour) (sym (live-take b))
-      ∙ sym e in
-      let z₁ : 0 + length (liveOf b) ≡ length (liveOf b) = omega arith in
+      let q : holderPlace 0 (recordsOf b) link colour ≡ place =
+      ap (λ (cs : List Circuit). holderPlace 0 cs link colour) (sym (records-take b)) ∙ sym e in
+      let z₁ : 0 + length (recordsOf b) ≡ length (recordsOf b) = omega arith in
       let z₂ : place - 0 ≡ place = omega arith in
-      held-allowed b link colour allowed ∙ holder-answer (liveOf b) link colour 0
-      ∙ ap (λ (i : ℕ). cond (ltb i (0 + length (liveOf b))) (Held (circuit (liveOf b) (i - 0) .serial)) Free) q
-      ∙ ap (λ (m : ℕ). cond (ltb place m) (Held (circuit (liveOf b) (place - 0) .serial)) Free) z₁
-      ∙ ap (λ (i : ℕ). cond (ltb place (length (liveOf b))) (Held (circuit (liveOf b) i .serial)) Free) z₂
+      held-allowed b link colour allowed ∙ holder-answer (recordsOf b) link colour 0
+      ∙ ap (λ (i : ℕ). cond (ltb i (0 + length (recordsOf b))) (Held (circuit (recordsOf b) (i - 0) .serial)) Free) q
+      ∙ ap (λ (m : ℕ). cond (ltb place m) (Held (circuit (recordsOf b) (place - 0) .serial)) Free) z₁
+      ∙ ap (λ (i : ℕ). cond (ltb place (length (recordsOf b))) (Held (circuit (recordsOf b) i .serial)) Free) z₂
 
-  pub answer-held : place < length (liveOf b) → Held (getD (b .places) place vacant .serial) ≡ heldBy b link colour
+  pub answer-held : place < length (recordsOf b) → Held (getD (b .places) place vacant .serial) ≡ heldBy b link colour
   answer-held h =
-      ap (λ (c : Circuit). Held (c .serial)) (live-at b place h)
-      ∙ ap (λ (t : Bool). cond t (Held (circuit (liveOf b) place .serial)) Free) (sym (lt-ltb place (length (liveOf b)) h)) ∙ sym answer-at
+      ap (λ (c : Circuit). Held (c .serial)) (record-at b place h)
+      ∙ ap (λ (t : Bool). cond t (Held (circuit (recordsOf b) place .serial)) Free) (sym (lt-ltb place (length (recordsOf b)) h))
+      ∙ sym answer-at
 
-  pub answer-free : length (liveOf b) ≤ place → Free ≡ heldBy b link colour
-  answer-free h = ap (λ (t : Bool). cond t (Held (circuit (liveOf b) place .serial)) Free) (sym (le-ltb place (length (liveOf b)) h))
+  pub answer-free : length (recordsOf b) ≤ place → Free ≡ heldBy b link colour
+  answer-free h = ap (λ (t : Bool). cond t (Held (circuit (recordsOf b) place .serial)) Free) (sym (le-ltb place (length (recordsOf b)) h))
       ∙ sym answer-at
 
 -- what is so of a holder
-record HolderAt (cs : List Circuit) (link colour s : ℕ) : Type 0 where
+pub record HolderAt (cs : List Circuit) (link colour s : ℕ) : Type 0 where
   pub place : ℕ
   pub below : place < length cs
   pub serial : circuit cs place .serial ≡ s
@@ -102,34 +105,56 @@ free-or-held (c ∷ cs) link colour = go (holds c link colour) (free-or-held cs 
     go true r = held (c .serial) refl
     go false r = r
 
--- a circuit that is shown under the serial and holds the colour on the link
-pub record ShownHolder (b : Book) (link colour s : ℕ) : Type 0 where
-  pub order : Circuit
-  pub is-shown : shown b s ≡ show.Shown order
-  pub holding : holds order link colour ≡ true
+-- no circuit holds it
+none-holds : (cs : List Circuit) (link colour : ℕ) → ((i : ℕ) → i < length cs → holds (circuit cs i) link colour ≡ false)
+    → holderIn cs link colour ≡ Free
+unfolding holderIn
+none-holds [] link colour f = refl
+none-holds (c ∷ cs) link colour f =
+    ap (λ (t : Bool). cond t (Held (c .serial)) (holderIn cs link colour)) (f 0 (omega arith))
+    ∙ none-holds cs link colour (λ i l. f (suc i) (omega arith))
 
+-- records that agree but for their states have the same holders
+granted-holder : (cs : List Circuit) (link colour : ℕ) → holderIn (map asGranted cs) link colour ≡ holderIn cs link colour
+unfolding holderIn holds
+granted-holder [] link colour = refl
+granted-holder (c ∷ cs) link colour = ap (cond (holds c link colour) (Held (c .serial))) (granted-holder cs link colour)
+
+pub alike-holder : (cs ds : List Circuit) → Alike ds cs → (link colour : ℕ) → holderIn ds link colour ≡ holderIn cs link colour
+alike-holder cs ds e link colour =
+    sym (granted-holder ds link colour) ∙ ap (λ (l : List Circuit). holderIn l link colour) e ∙ granted-holder cs link colour
+
+-- the holder is a record of the serial that holds the colour on the link
 module _ (b : Book) (v : Valid b) (link colour : ℕ) (hl : link < b .n) (hc : colour < b .w) where
-  pub held-shown : (s : ℕ) → heldBy b link colour ≡ Held s → ShownHolder b link colour s
-  held-shown s e =
-      let r : HolderAt (liveOf b) link colour s = holder-at (liveOf b) link colour s (sym (held-in-range b link colour hl hc) ∙ e) in
-      let c = circuit (liveOf b) (r .place) in
-      record {
-        order = c;
-        is-shown = ap (shown b) (sym (r .serial)) ∙ shown-is b (c .serial)
-            ∙ live-shown (b .n) (b .w) (b .grants) (liveOf b) (v .circuits) (r .place) (r .below);
-        holding = r .holding;
-      }
+  -- two records do not hold one colour on one link
+  only-holder : (i j : ℕ) → i < length (recordsOf b) → j < length (recordsOf b) → (j ≡ i → ⊥)
+      → holds (circuit (recordsOf b) i) link colour ≡ true → holds (circuit (recordsOf b) j) link colour ≡ false
+  only-holder i j hi hj d e = elim (compare i j) [
+    | less l q ↦ v .circuits .apart i j l hj link colour hl e
+    | not-less l q ↦ elim (is (holds (circuit (recordsOf b) j) link colour)) [
+      | yes t ↦
+          let m : j < i = omega arith in
+          impossible (sym e ∙ v .circuits .apart j i m hi link colour hl t)
+      | no t ↦ t
+    ]
+  ]
 
-  pub shown-held : (s : ℕ) → ShownHolder b link colour s → heldBy b link colour ≡ Held s
-  shown-held s g =
-      let a : ShownAt (liveOf b) s (g .order) =
-      shown-at (liveOf b) s (g .order) (shown-given (b .grants) (liveOf b) s (g .order) (sym (shown-is b s) ∙ g .is-shown) .1) in
-      let e : holds (circuit (liveOf b) (a .place)) link colour ≡ true = ap (λ (c : Circuit). holds c link colour) (a .there)
-      ∙ g .holding in
-      let f : (j : ℕ) → j < a .place → holds (circuit (liveOf b) j) link colour ≡ false =
-      λ j l. elim (is (holds (circuit (liveOf b) j) link colour)) [
-        | yes t ↦ absurd (true≢false (sym e ∙ v .circuits .apart j (a .place) l (a .below) link colour hl t))
-        | no t ↦ t
-      ] in
-      held-in-range b link colour hl hc ∙ first-holder (liveOf b) link colour (a .place) (a .below) e f
-      ∙ ap Held (ap (λ (c : Circuit). c .serial) (a .there) ∙ a .serial)
+  pub held-at : (s : ℕ) → heldBy b link colour ≡ Held s → HolderAt (recordsOf b) link colour s
+  held-at s e = holder-at (recordsOf b) link colour s (sym (held-in-range b link colour hl hc) ∙ e)
+
+  pub at-held : (s : ℕ) → HolderAt (recordsOf b) link colour s → heldBy b link colour ≡ Held s
+  at-held s a =
+      held-in-range b link colour hl hc
+      ∙ first-holder (recordsOf b) link colour (a .place) (a .below) (a .holding)
+      (λ j l. only-holder (a .place) j (a .below) (let h = a .below in omega arith) (λ q. omega arith) (a .holding))
+      ∙ ap Held (a .serial)
+
+  -- once it is gone, nobody does
+  pub gone-free : (i : ℕ) → i < length (recordsOf b) → holds (circuit (recordsOf b) i) link colour ≡ true
+      → heldBy (withoutCircuit i b) link colour ≡ Free
+  gone-free i h e =
+      held-in-range (withoutCircuit i b) link colour hl hc
+      ∙ ap (λ (d : Book). holderIn (recordsOf d) link colour) (without-form b v i h)
+      ∙ ap (λ (l : List Circuit). holderIn l link colour) (records-form (b .n) (b .w) (b .grants) (without i (recordsOf b)))
+      ∙ none-holds (without i (recordsOf b)) link colour
+      (all-without (recordsOf b) i h (λ x. holds x link colour ≡ false) (λ j l d. only-holder i j h l d e))

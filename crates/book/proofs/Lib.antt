@@ -1,11 +1,15 @@
 -- The laws that the functions' proofs cite, and the theorems whose statements stand in specs/:
--- Forms (SameMeans), ConflictLaws (ConflictMeans), Validity (KeepsValid), PreviewLaws (PreviewSays), PlaceLaws (PlacesUsedAgain),
+-- Sameness (SameMeans), ConflictLaws (ConflictMeans), Validity (KeepsValid), PreviewLaws (PreviewSays), PlaceLaws (PlacesUsedAgain),
 -- NoNodeLaws (TurnsAllDown), EveryHistory.
 pub mod Places
 pub mod Forms
+pub mod States
+pub mod Sameness
 pub mod CircuitLists
 pub mod Opening
 pub mod Lookups
+pub mod Outcomes
+pub mod Pendings
 pub mod Shifts
 pub mod Searches
 pub mod Lending
@@ -16,9 +20,11 @@ pub mod Validity
 pub mod PreviewLaws
 pub mod Trials
 pub mod BundleLaws
-pub mod Showing
-pub mod Serials
+pub mod Standings
+pub mod StandingChanges
 pub mod Holding
+pub mod Serials
+pub mod Agreement
 pub mod NoNodeLaws
 pub mod PlaceLaws
 pub mod Histories

@@ -1,4 +1,4 @@
--- A record takes the first place behind the live ones, which is vacant, and a removal leaves one vacant place more.
+-- A record takes the first place behind the others, which is vacant; a removal leaves as many vacant places, a confirmation one more.
 use Prim.Native.Nat.{ℕ, zero, suc, _+_, _-_, _≤_, _<_}
 use mathlib.Core.Path.{_≡_, refl, _∙_, ap, subst}
 use mathlib.Core.Bool.{_||_}
@@ -6,7 +6,7 @@ use mathlib.Core.List.{List, [], _∷_, _++_}
 use mathlib.Core.Logic.{⊎-elim}
 use native.Mathlib.Omega.{arith}
 use lib.Dec.{eqb, leb, ltb}
-use lib.ListN.{length, replicate, length-append, length-replicate, getD-replicate}
+use lib.ListN.{length, set, replicate, length-append, length-set, length-replicate, getD-replicate}
 use lib.Seq.{getD-append-add, getD-set-same, getD-set-other}
 use borrow.Author.Tests.{ne-eqb, leb-true}
 use Rattle.ring.specs.declared.refusals.Refusal.the-variants.{CircuitEnd, CircuitEndsEqual, WayNumber, ColourNumber, ColourHeld, BookFull}
@@ -21,19 +21,17 @@ use Rattle.ring.proofs.AdmissionLaws.{refuse-refused, either-refused}
 use Rattle.book.specs.declared.circuits.Circuit.{Circuit}
 use Rattle.book.specs.declared.books.Book.{Book}
 use Rattle.book.specs.declared.grants.GrantAnswer.the-variants as grant
-use Rattle.book.specs.declared.removals.RemoveAnswer.the-variants as remove
-use Rattle.book.specs.declared.orders.Lookup.{Lookup}
-use Rattle.book.specs.declared.orders.Lookup.the-variants.{Found, Missing}
-use Rattle.book.specs.Circuits.{vacant, circuit}
-use Rattle.book.specs.Books.{liveOf, Valid}
+use Rattle.book.specs.declared.confirmations.ConfirmAnswer.the-variants as confirm
+use Rattle.book.specs.Circuits.{vacant, asPending, circuit}
+use Rattle.book.specs.Books.{recordsOf, Valid}
 use Rattle.book.specs.Grants.{wayOf, circuitOf, colourHeld, argumentVerdict, roomVerdict, grantVerdict, withCircuit, grantUnless}
 use Rattle.book.specs.Grants.{granted}
-use Rattle.book.specs.Orders.{lookup, missing}
-use Rattle.book.specs.Removals.{without, withoutCircuit, removeFound, removed}
+use Rattle.book.specs.Removals.{withRecord, removed}
+use Rattle.book.specs.Confirmations.{without, withoutCircuit, confirmed}
 use Rattle.book.specs.Places.{TakesVacantPlace, vacantPlaces, PlacesUsedAgain}
-use Rattle.book.proofs.Forms.{live-form, valid-live, without-form, length-without}
-use Rattle.book.proofs.Lookups.{found-place}
-use Rattle.book.proofs.Validity.{removal-valid}
+use Rattle.book.proofs.Forms.{records-form, valid-records, without-form, record-form, length-without}
+use Rattle.book.proofs.Outcomes.{removal-cases, confirmation-cases}
+use Rattle.book.proofs.Validity.{removal-valid, confirmation-valid}
 use Rattle.book.proofs.Verdicts.{good-grant}
 
 -- ---- counting
@@ -51,7 +49,7 @@ counted (c ∷ cs) k h =
 
 module _ (b : Book) (v : Valid b) where
   abbrev cs : List Circuit
-  cs = liveOf b
+  cs = recordsOf b
 
   -- the places of a valid book
   laid : b .places ≡ cs ++ replicate (512 - length cs) vacant
@@ -63,23 +61,23 @@ module _ (b : Book) (v : Valid b) where
   all-places : length (b .places) ≡ 512
   all-places = ap length laid ∙ simp (length-append, length-replicate) (omega (arith, v .circuits .room))
 
-  -- behind the live circuits every place is vacant
-  behind : b .live < 512 → circuit (b .places) (b .live) ≡ vacant
+  -- behind the records every place is vacant
+  behind : b .records < 512 → circuit (b .places) (b .records) ≡ vacant
   behind h =
-      let here : b .live ≡ length cs + 0 = omega (arith, valid-live b v) in
-      let more : 0 < 512 - length cs = omega (arith, valid-live b v) in
+      let here : b .records ≡ length cs + 0 = omega (arith, valid-records b v) in
+      let more : 0 < 512 - length cs = omega (arith, valid-records b v) in
       ap (circuit (b .places)) here
       ∙ ap (λ (ps : List Circuit). circuit ps (length cs + 0)) laid
       ∙ getD-append-add cs (replicate (512 - length cs) vacant) 0 vacant
       ∙ getD-replicate (512 - length cs) 0 vacant vacant more
 
-  with-place : (c : Circuit) → b .live < 512 → TakesVacantPlace b (withCircuit b c) c
+  with-place : (c : Circuit) → b .records < 512 → TakesVacantPlace b (withCircuit b c) c
   with-place c h = record {
-    place = b .live;
+    place = b .records;
     within = h;
     was-vacant = behind h;
-    taken = getD-set-same (b .places) (b .live) c vacant (omega (arith, all-places));
-    others = λ i d. getD-set-other (b .places) (b .live) i c vacant (λ e. d e);
+    taken = getD-set-same (b .places) (b .records) c vacant (omega (arith, all-places));
+    others = λ i d. getD-set-other (b .places) (b .records) i c vacant (λ e. d e);
   }
 
 module _ (b : Book) (v : Valid b) where
@@ -97,30 +95,40 @@ module _ (b : Book) (v : Valid b) where
           (with-place b v (circuitOf (b .grants + 1) x y way colour) (good-grant b x y way colour q .places))
       go (verdict.Refused r) q f = impossible (cc)
 
-  -- a removal leaves one circuit less
-  one-less : (i : ℕ) → i < length (liveOf b) → vacantPlaces (withoutCircuit i b .places) ≡ suc (vacantPlaces (b .places))
+  -- a removal leaves as many records
+  as-many : (i : ℕ) → i < length (recordsOf b)
+      → vacantPlaces (withRecord i (asPending (circuit (recordsOf b) i)) b .places) ≡ vacantPlaces (b .places)
+  as-many i h =
+      let c : Circuit = asPending (circuit (recordsOf b) i) in
+      let left : length (recordsOf (withRecord i c b)) ≡ length (recordsOf b) =
+      ap (λ (d : Book). length (recordsOf d)) (record-form b v i c h)
+      ∙ ap length (records-form (b .n) (b .w) (b .grants) (set (recordsOf b) i c)) ∙ length-set (recordsOf b) i c in
+      omega (arith, vacant-count b v, vacant-count (withRecord i c b) (removal-valid b v i h))
+
+  stays : (serial : ℕ) → vacantPlaces (removed b serial .book .places) ≡ vacantPlaces (b .places)
+  stays serial =
+      removal-cases b serial (λ d. vacantPlaces (d .book .places) ≡ vacantPlaces (b .places)) (λ i h named live. as-many i h) (λ r. refl)
+
+  -- a confirmation leaves one record less
+  one-less : (i : ℕ) → i < length (recordsOf b) → vacantPlaces (withoutCircuit i b .places) ≡ suc (vacantPlaces (b .places))
   one-less i h =
-      let left : length (liveOf (withoutCircuit i b)) ≡ length (without i (liveOf b)) =
-      ap (λ (d : Book). length (liveOf d)) (without-form b v i h)
-      ∙ ap length (live-form (b .n) (b .w) (b .grants) (without i (liveOf b))) in
+      let left : length (recordsOf (withoutCircuit i b)) ≡ length (without i (recordsOf b)) =
+      ap (λ (d : Book). length (recordsOf d)) (without-form b v i h)
+      ∙ ap length (records-form (b .n) (b .w) (b .grants) (without i (recordsOf b))) in
       omega (
         arith,
         vacant-count b v,
-        vacant-count (withoutCircuit i b) (removal-valid b v i h),
-        length-without i (liveOf b) h,
+        vacant-count (withoutCircuit i b) (confirmation-valid b v i h),
+        length-without i (recordsOf b) h,
         v .circuits .room,
       )
 
-  frees : (serial : ℕ) → removed b serial .answer ≡ remove.Removed
-      → vacantPlaces (removed b serial .book .places) ≡ suc (vacantPlaces (b .places))
-  unfolding removed
-  frees serial e = go (lookup b serial) (found-place b serial) e
-    where
-      go : (l : Lookup) → ((i : ℕ) (c : Circuit) → l ≡ Found i c → i < length (liveOf b))
-          → removeFound l (missing b serial) b .answer ≡ remove.Removed
-          → vacantPlaces (removeFound l (missing b serial) b .book .places) ≡ suc (vacantPlaces (b .places))
-      go (Found i c) f q = one-less i (f i c refl)
-      go Missing f q = impossible (cc)
+  frees : (serial : ℕ) → confirmed b serial .answer ≡ confirm.Confirmed
+      → vacantPlaces (confirmed b serial .book .places) ≡ suc (vacantPlaces (b .places))
+  frees serial =
+      confirmation-cases b serial
+      (λ d. d .answer ≡ confirm.Confirmed → vacantPlaces (d .book .places) ≡ suc (vacantPlaces (b .places)))
+      (λ i h named pending e. one-less i h) (λ r e. impossible (cc))
 
 -- 12 is said only by the test for places
 full-argument : (n w x y way colour : ℕ) → argumentVerdict n w x y way colour ≡ verdict.Refused BookFull → ⊥
@@ -141,24 +149,24 @@ full-argument n w x y way colour e =
     (either-refused ways colours BookFull p))
     (either-refused (orElse outside equal) (orElse ways colours) BookFull e)
 
-full-room : (live grants : ℕ) → roomVerdict live grants ≡ verdict.Refused BookFull → 512 ≤ live
+full-room : (records grants : ℕ) → roomVerdict records grants ≡ verdict.Refused BookFull → 512 ≤ records
 unfolding roomVerdict
-full-room live grants e =
+full-room records grants e =
     ⊎-elim
-    (λ p. leb-true 512 live (refuse-refused (leb 512 live) BookFull BookFull p .0))
+    (λ p. leb-true 512 records (refuse-refused (leb 512 records) BookFull BookFull p .0))
     (λ p. let g = refuse-refused (leb 65535 grants) SerialsUsedUp BookFull p in impossible (cc))
-    (either-refused (refuseIf (leb 512 live) BookFull) (refuseIf (leb 65535 grants) SerialsUsedUp) BookFull e)
+    (either-refused (refuseIf (leb 512 records) BookFull) (refuseIf (leb 65535 grants) SerialsUsedUp) BookFull e)
 
-full-verdict : (b : Book) (x y way colour : ℕ) → grantVerdict b x y way colour ≡ verdict.Refused BookFull → 512 ≤ b .live
+full-verdict : (b : Book) (x y way colour : ℕ) → grantVerdict b x y way colour ≡ verdict.Refused BookFull → 512 ≤ b .records
 unfolding grantVerdict
 full-verdict b x y way colour e =
     let held = colourHeld b (wayOf way) (requestOf x y) colour in
-    let room = roomVerdict (b .live) (b .grants) in
+    let room = roomVerdict (b .records) (b .grants) in
     ⊎-elim
     (λ p. absurd (full-argument (b .n) (b .w) x y way colour p))
     (λ p. ⊎-elim
     (λ q. let g = refuse-refused held ColourHeld BookFull q in impossible (cc))
-    (full-room (b .live) (b .grants))
+    (full-room (b .records) (b .grants))
     (either-refused (refuseIf held ColourHeld) room BookFull p))
     (either-refused (argumentVerdict (b .n) (b .w) x y way colour) (orElse (refuseIf held ColourHeld) room) BookFull e)
 
@@ -166,7 +174,7 @@ full : (b : Book) → Valid b → (x y way colour : ℕ) → granted b x y way c
     → vacantPlaces (b .places) ≡ 0
 unfolding granted
 full b v x y way colour e =
-    omega (arith, vacant-count b v, valid-live b v, full-verdict b x y way colour (go (grantVerdict b x y way colour) e))
+    omega (arith, vacant-count b v, valid-records b v, full-verdict b x y way colour (go (grantVerdict b x y way colour) e))
   where
     go : (t : Verdict) → grantUnless t b (circuitOf (b .grants + 1) x y way colour) .answer ≡ grant.Refused BookFull
         → t ≡ verdict.Refused BookFull
@@ -174,4 +182,4 @@ full b v x y way colour e =
     go (verdict.Refused r) q = cc
 
 pub places-used-again : PlacesUsedAgain
-places-used-again b v = record { takes = takes b v; frees = frees b v; full = full b v }
+places-used-again b v = record { takes = takes b v; stays = stays b v; frees = frees b v; full = full b v }

@@ -1,4 +1,4 @@
--- The searches for a conflict and for a holder, one place on.
+-- The walks over the records, one place on: for one that has a property, for a holder, and counting.
 use Prim.Native.Nat.{ℕ, suc, _+_, _-_, _≤_, _<_}
 use mathlib.Core.Path.{_≡_, sym, _∙_, ap}
 use mathlib.Core.Bool.{Bool, true, false, cond}
@@ -7,33 +7,49 @@ use native.Mathlib.Omega.{arith}
 use lib.Dec.{ltb}
 use lib.ListN.{length, drop, getD, drop-of-length-le}
 use borrow.Author.Tests.{lt-ltb, le-ltb}
-use Rattle.ring.specs.declared.requests.Request.{Request}
-use Rattle.ring.specs.declared.ways.Way.{Way}
 use Rattle.book.specs.declared.circuits.Circuit.{Circuit}
 use Rattle.book.specs.declared.books.Book.{Book}
 use Rattle.book.specs.declared.holders.HolderAnswer.{HolderAnswer}
 use Rattle.book.specs.declared.holders.HolderAnswer.the-variants.{Free, Held}
-use Rattle.book.specs.Circuits.{vacant, circuit, someCircuit, holds}
-use Rattle.book.specs.Books.{liveOf}
-use Rattle.book.specs.Internal.Conflicts.{conflicts, conflictIn}
+use Rattle.book.specs.Circuits.{vacant, isLive, circuit, someCircuit, holds}
+use Rattle.book.specs.Books.{recordsOf, liveIn}
 use Rattle.book.specs.Holders.{holderIn}
 use Rattle.book.specs.Internal.Places.{holderPlace}
 use Rattle.book.proofs.Places.{list-next, next, none-left}
+use Rattle.book.proofs.States.{live-next}
 
-module _ (b : Book) (way : Way) (r : Request) (colour i : ℕ) where
-  pub conflict-found : i < length (liveOf b) → conflicts (getD (b .places) i vacant) way r colour ≡ true
-      → conflictIn (drop i (liveOf b)) way r colour ≡ true
-  unfolding conflictIn someCircuit
-  conflict-found h e = rw (next b i h, e)
+-- the search for a record that has a property
+module _ (b : Book) (p : Circuit → Bool) (i : ℕ) where
+  pub some-found : i < length (recordsOf b) → p (getD (b .places) i vacant) ≡ true → someCircuit (drop i (recordsOf b)) p ≡ true
+  unfolding someCircuit
+  some-found h e = rw (next b i h, e)
 
-  pub conflict-passed : i < length (liveOf b) → conflicts (getD (b .places) i vacant) way r colour ≡ false
-      → conflictIn (drop i (liveOf b)) way r colour ≡ conflictIn (drop (i + 1) (liveOf b)) way r colour
-  unfolding conflictIn someCircuit
-  conflict-passed h e = rw (next b i h, e)
+  pub some-passed : i < length (recordsOf b) → p (getD (b .places) i vacant) ≡ false
+      → someCircuit (drop i (recordsOf b)) p ≡ someCircuit (drop (i + 1) (recordsOf b)) p
+  unfolding someCircuit
+  some-passed h e = rw (next b i h, e)
 
-  pub conflict-ended : length (liveOf b) ≤ i → conflictIn (drop i (liveOf b)) way r colour ≡ false
-  unfolding conflictIn someCircuit
-  conflict-ended h = rw (none-left b i h)
+  pub some-ended : length (recordsOf b) ≤ i → someCircuit (drop i (recordsOf b)) p ≡ false
+  unfolding someCircuit
+  some-ended h = rw (none-left b i h)
+
+-- counting the live records
+pub live-turn : (b : Book) (i live count : ℕ) (t : Bool) → i < length (recordsOf b) → t ≡ isLive (getD (b .places) i vacant)
+    → count ≡ live + cond t 1 0
+    → (count ≤ live + 1) × (count + length (liveIn (drop (i + 1) (recordsOf b))) ≡ live + length (liveIn (drop i (recordsOf b))))
+live-turn b i live count t h e q =
+    let now : length (liveIn (drop i (recordsOf b))) ≡ cond t 1 0 + length (liveIn (drop (i + 1) (recordsOf b))) =
+    ap (λ (cs : List Circuit). length (liveIn cs)) (next b i h)
+    ∙ live-next (getD (b .places) i vacant) (drop (i + 1) (recordsOf b))
+    ∙ ap (λ (u : Bool). cond u 1 0 + length (liveIn (drop (i + 1) (recordsOf b)))) (sym e) in
+    (few t q, omega arith)
+  where
+    few : (u : Bool) → count ≡ live + cond u 1 0 → count ≤ live + 1
+    few true k = omega arith
+    few false k = omega arith
+
+pub live-ended : (b : Book) (i : ℕ) → length (recordsOf b) ≤ i → length (liveIn (drop i (recordsOf b))) ≡ 0
+live-ended b i h = ap (λ (cs : List Circuit). length (liveIn cs)) (none-left b i h)
 
 -- from place i of a list on
 module _ (cs : List Circuit) (link colour i : ℕ) where

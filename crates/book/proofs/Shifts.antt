@@ -1,4 +1,4 @@
--- A removal moves the later circuits down by one, place after place.
+-- A confirmation moves the later circuits down by one, place after place.
 use Prim.Native.Nat.{ℕ, suc, _+_, _-_, _≤_, _<_}
 use mathlib.Core.Path.{_≡_, sym, _∙_, ap}
 use mathlib.Core.List.{List, _∷_, _++_}
@@ -9,9 +9,9 @@ use lib.Seq.{length-slice}
 use Rattle.book.specs.declared.circuits.Circuit.{Circuit}
 use Rattle.book.specs.declared.books.Book.{Book}
 use Rattle.book.specs.Circuits.{vacant}
-use Rattle.book.specs.Books.{liveOf}
-use Rattle.book.specs.Removals.{without, withoutCircuit}
-use Rattle.book.proofs.Places.{live-take, live-drop, live-fits}
+use Rattle.book.specs.Books.{recordsOf}
+use Rattle.book.specs.Confirmations.{without, withoutCircuit}
+use Rattle.book.proofs.Places.{records-take, records-drop, records-fit}
 
 -- the places once j circuits have moved down to place `at` and those behind it, of the first n
 abbrev moved : List Circuit → ℕ → ℕ → ℕ → List Circuit
@@ -57,49 +57,49 @@ module _ (xs : List Circuit) (n at : ℕ) (h : n ≤ length xs) (g : at < n) whe
 
 -- the book with other places
 abbrev pub with-places : Book → List Circuit → Book
-with-places b ps = record { n = b .n; w = b .w; grants = b .grants; live = b .live; places = ps }
+with-places b ps = record { n = b .n; w = b .w; grants = b .grants; records = b .records; places = ps }
 
 -- the book once the circuits behind place `at`, up to place i, have moved down
 abbrev pub shifted : Book → ℕ → ℕ → Book
-shifted b at i = with-places b (moved (b .places) (length (liveOf b)) at (i - at))
+shifted b at i = with-places b (moved (b .places) (length (recordsOf b)) at (i - at))
 
-module _ (b : Book) (at : ℕ) (g : at < length (liveOf b)) where
+module _ (b : Book) (at : ℕ) (g : at < length (recordsOf b)) where
   pub shifted-none : b ≡ shifted b at at
   shifted-none =
       let e : 0 ≡ at - at = omega arith in
-      ap (with-places b) (paste-zero (b .places) at (drop (at + 1) (take (length (liveOf b)) (b .places)))
-      ∙ ap (moved (b .places) (length (liveOf b)) at) e)
+      ap (with-places b) (paste-zero (b .places) at (drop (at + 1) (take (length (recordsOf b)) (b .places)))
+      ∙ ap (moved (b .places) (length (recordsOf b)) at) e)
 
-  pub shifted-next : (d : Book) (i : ℕ) → d ≡ shifted b at i → at ≤ i → i + 1 < length (liveOf b)
+  pub shifted-next : (d : Book) (i : ℕ) → d ≡ shifted b at i → at ≤ i → i + 1 < length (recordsOf b)
       → with-places d (set (d .places) i (getD (d .places) (i + 1) vacant)) ≡ shifted b at (i + 1)
   shifted-next d i e l k =
       let e₁ : i ≡ at + (i - at) = omega arith in
       let e₂ : suc (i - at) ≡ i + 1 - at = omega arith in
       ap (λ (x : Book). with-places x (set (x .places) i (getD (x .places) (i + 1) vacant))) e
       ∙ ap (λ (j : ℕ). with-places b (set (shifted b at i .places) j (getD (shifted b at i .places) (j + 1) vacant))) e₁
-      ∙ ap (with-places b) (shift-next (b .places) (length (liveOf b)) at (live-fits b) g (i - at) vacant (omega arith)
-      ∙ ap (moved (b .places) (length (liveOf b)) at) e₂)
+      ∙ ap (with-places b) (shift-next (b .places) (length (recordsOf b)) at (records-fit b) g (i - at) vacant (omega arith)
+      ∙ ap (moved (b .places) (length (recordsOf b)) at) e₂)
 
-  pub shifted-all : (d : Book) (last live : ℕ) (v : Circuit) → d ≡ shifted b at last → last ≡ length (liveOf b) - 1 → live ≡ last
+  pub shifted-all : (d : Book) (last count : ℕ) (v : Circuit) → d ≡ shifted b at last → last ≡ length (recordsOf b) - 1 → count ≡ last
       → v ≡ vacant
-      → record { n = d .n; w = d .w; grants = d .grants; live = live; places = set (d .places) last v } ≡ withoutCircuit at b
-  shifted-all d last live v e k el ev =
-      let ended : set (moved (b .places) (length (liveOf b)) at (length (liveOf b) - 1 - at)) (length (liveOf b) - 1) vacant
-      ≡ without at (liveOf b) ++ (vacant ∷ drop (b .live) (b .places)) =
-      shift-ended (b .places) (length (liveOf b)) at (live-fits b) g vacant
-      ∙ ap (λ (ys : List Circuit). without at ys ++ (vacant ∷ drop (length (liveOf b)) (b .places))) (live-take b)
-      ∙ ap (λ (ys : List Circuit). without at (liveOf b) ++ (vacant ∷ ys)) (live-drop b)
+      → record { n = d .n; w = d .w; grants = d .grants; records = count; places = set (d .places) last v } ≡ withoutCircuit at b
+  shifted-all d last count v e k el ev =
+      let ended : set (moved (b .places) (length (recordsOf b)) at (length (recordsOf b) - 1 - at)) (length (recordsOf b) - 1) vacant
+      ≡ without at (recordsOf b) ++ (vacant ∷ drop (b .records) (b .places)) =
+      shift-ended (b .places) (length (recordsOf b)) at (records-fit b) g vacant
+      ∙ ap (λ (ys : List Circuit). without at ys ++ (vacant ∷ drop (length (recordsOf b)) (b .places))) (records-take b)
+      ∙ ap (λ (ys : List Circuit). without at (recordsOf b) ++ (vacant ∷ ys)) (records-drop b)
       in
-      ap (λ (m : ℕ). record { n = d .n; w = d .w; grants = d .grants; live = m; places = set (d .places) last v }) el
-      ∙ ap (λ (x : Book). record { n = x .n; w = x .w; grants = x .grants; live = last; places = set (x .places) last v }) e
-      ∙ ap (λ (j : ℕ). record { n = b .n; w = b .w; grants = b .grants; live = j; places = set (shifted b at j .places) j v }) k
+      ap (λ (m : ℕ). record { n = d .n; w = d .w; grants = d .grants; records = m; places = set (d .places) last v }) el
+      ∙ ap (λ (x : Book). record { n = x .n; w = x .w; grants = x .grants; records = last; places = set (x .places) last v }) e
+      ∙ ap (λ (j : ℕ). record { n = b .n; w = b .w; grants = b .grants; records = j; places = set (shifted b at j .places) j v }) k
       ∙ ap (λ (u : Circuit).
       record {
         n = b .n;
         w = b .w;
         grants = b .grants;
-        live = length (liveOf b) - 1;
+        records = length (recordsOf b) - 1;
         places =
-            set (shifted b at (length (liveOf b) - 1) .places) (length (liveOf b) - 1) u;
+            set (shifted b at (length (recordsOf b) - 1) .places) (length (recordsOf b) - 1) u;
       }) ev
-      ∙ ap (λ (ps : List Circuit). record { n = b .n; w = b .w; grants = b .grants; live = length (liveOf b) - 1; places = ps }) ended
+      ∙ ap (λ (ps : List Circuit). record { n = b .n; w = b .w; grants = b .grants; records = length (recordsOf b) - 1; places = ps }) ended

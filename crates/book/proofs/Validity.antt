@@ -5,7 +5,7 @@ use mathlib.Core.Bool.{Bool, true, false, _&&_}
 use mathlib.Core.List.{List, [], _∷_, _++_}
 use native.Mathlib.Omega.{arith}
 use lib.Dec.{eqb}
-use lib.ListN.{length}
+use lib.ListN.{length, set}
 use borrow.Author.Tests.{eqb-true}
 use Rattle.ring.specs.declared.refusals.Verdict.{Verdict}
 use Rattle.ring.specs.declared.refusals.Verdict.the-variants as verdict
@@ -15,19 +15,18 @@ use Rattle.ring.proofs.Cases.{and-true}
 use Rattle.ring.proofs.WayLaws.{some-none}
 use Rattle.book.specs.declared.circuits.Circuit.{Circuit}
 use Rattle.book.specs.declared.books.Book.{Book}
-use Rattle.book.specs.declared.orders.Lookup.{Lookup}
-use Rattle.book.specs.declared.orders.Lookup.the-variants.{Found, Missing}
-use Rattle.book.specs.Circuits.{circuit, holds}
-use Rattle.book.specs.Books.{liveOf, bookOf, Valid, ValidCircuits}
+use Rattle.book.specs.Circuits.{asPending, circuit, holds}
+use Rattle.book.specs.Books.{recordsOf, bookOf, Valid, ValidCircuits}
 use Rattle.book.specs.Grants.{wayOf, circuitOf, heldIn, heldOnWay, colourHeld, grantVerdict, withCircuit, grantUnless, granted}
-use Rattle.book.specs.Orders.{lookup, missing}
-use Rattle.book.specs.Removals.{without, withoutCircuit, removeFound, removed}
+use Rattle.book.specs.Removals.{withRecord, removed}
+use Rattle.book.specs.Confirmations.{without, withoutCircuit, confirmed}
 use Rattle.book.specs.History.{KeepsValid}
 use Rattle.book.proofs.Opening.{opened-book, opened-valid}
-use Rattle.book.proofs.Forms.{live-form, valid-live, with-form, without-form, length-without}
+use Rattle.book.proofs.Forms.{records-form, valid-records, with-form, without-form, record-form, length-without}
 use Rattle.book.proofs.CircuitLists.{snoc-length, all-snoc, pairs-snoc, all-without, pairs-without}
 use Rattle.book.proofs.ConflictLaws.{true-and, holds-held}
-use Rattle.book.proofs.Lookups.{found-place}
+use Rattle.book.proofs.States.{pending-alike, alike-valid}
+use Rattle.book.proofs.Outcomes.{removal-cases, confirmation-cases}
 use Rattle.book.proofs.Verdicts.{GoodGrant, good-grant}
 
 -- the book with valid circuits
@@ -38,9 +37,9 @@ valid-of n w g cs hn hw hg v =
       nodes = hn;
       colours = hw;
       few = hg;
-      form = ap (bookOf n w g) (sym (live-form n w g cs));
+      form = ap (bookOf n w g) (sym (records-form n w g cs));
       circuits =
-          subst (ValidCircuits n w g) (sym (live-form n w g cs)) v;
+          subst (ValidCircuits n w g) (sym (records-form n w g cs)) v;
     }
 
 -- a new circuit with the next serial, and with no colour on a link that another one holds
@@ -74,9 +73,9 @@ without-valid n w g cs at v l =
     }
 
 module _ (b : Book) (v : Valid b) where
-  -- ground 11 is not there: the new circuit holds nothing that a live one holds
+  -- ground 11 is not there: the new circuit holds nothing that a record holds
   new-apart : (s x y way colour : ℕ) → colourHeld b (wayOf way) (requestOf x y) colour ≡ false
-      → (i : ℕ) → i < length (liveOf b) → (link k : ℕ) → link < b .n → holds (circuit (liveOf b) i) link k ≡ true
+      → (i : ℕ) → i < length (recordsOf b) → (link k : ℕ) → link < b .n → holds (circuit (recordsOf b) i) link k ≡ true
       → holds (circuitOf s x y way colour) link k ≡ false
   unfolding colourHeld heldOnWay holds
   new-apart s x y way colour free i h link k l e = go (holds (circuitOf s x y way colour) link k) refl
@@ -85,28 +84,35 @@ module _ (b : Book) (v : Valid b) where
       go false q = refl
       go true q =
           let p = and-true (eqb colour k) (uses (wayOf way) (requestOf x y) link) q in
-          let g : holds (circuit (liveOf b) i) link colour ≡ true =
-          subst (λ (m : ℕ). holds (circuit (liveOf b) i) link m ≡ true) (sym (eqb-true colour k (p .0))) e in
-          let f : (uses (wayOf way) (requestOf x y) link && heldIn (liveOf b) link colour) ≡ true =
-          true-and (uses (wayOf way) (requestOf x y) link) (heldIn (liveOf b) link colour) (p .1)
-          (holds-held (liveOf b) link colour i h g) in
-          sym f ∙ some-none (b .n) (λ j. uses (wayOf way) (requestOf x y) j && heldIn (liveOf b) j colour) free link l
+          let g : holds (circuit (recordsOf b) i) link colour ≡ true =
+          subst (λ (m : ℕ). holds (circuit (recordsOf b) i) link m ≡ true) (sym (eqb-true colour k (p .0))) e in
+          let f : (uses (wayOf way) (requestOf x y) link && heldIn (recordsOf b) link colour) ≡ true =
+          true-and (uses (wayOf way) (requestOf x y) link) (heldIn (recordsOf b) link colour) (p .1)
+          (holds-held (recordsOf b) link colour i h g) in
+          sym f ∙ some-none (b .n) (λ j. uses (wayOf way) (requestOf x y) j && heldIn (recordsOf b) j colour) free link l
 
   pub with-valid : (x y way colour : ℕ) → GoodGrant b x y way colour → Valid (withCircuit b (circuitOf (b .grants + 1) x y way colour))
   with-valid x y way colour g =
-      let room : length (liveOf b) < 512 = omega (arith, valid-live b v, g .places) in
+      let room : length (recordsOf b) < 512 = omega (arith, valid-records b v, g .places) in
       let c : Circuit = circuitOf (b .grants + 1) x y way colour in
       let few : b .grants + 1 ≤ 65535 = omega (arith, g .serials) in
       subst Valid (sym (with-form b v c room))
-      (valid-of (b .n) (b .w) (b .grants + 1) (liveOf b ++ (c ∷ [])) (v .nodes) (v .colours) few
-      (snoc-valid (b .n) (b .w) (b .grants) (liveOf b) c (v .circuits) room refl (g .arguments .ordered) (g .arguments .nodes)
+      (valid-of (b .n) (b .w) (b .grants + 1) (recordsOf b ++ (c ∷ [])) (v .nodes) (v .colours) few
+      (snoc-valid (b .n) (b .w) (b .grants) (recordsOf b) c (v .circuits) room refl (g .arguments .ordered) (g .arguments .nodes)
       (g .arguments .colours) (new-apart (b .grants + 1) x y way colour (g .free))))
 
-  pub removal-valid : (i : ℕ) → i < length (liveOf b) → Valid (withoutCircuit i b)
+  pub removal-valid : (i : ℕ) → i < length (recordsOf b) → Valid (withRecord i (asPending (circuit (recordsOf b) i)) b)
   removal-valid i h =
+      let ds : List Circuit = set (recordsOf b) i (asPending (circuit (recordsOf b) i)) in
+      subst Valid (sym (record-form b v i (asPending (circuit (recordsOf b) i)) h))
+      (valid-of (b .n) (b .w) (b .grants) ds (v .nodes) (v .colours) (v .few)
+      (alike-valid (b .n) (b .w) (b .grants) (recordsOf b) ds (pending-alike (recordsOf b) i) (v .circuits)))
+
+  pub confirmation-valid : (i : ℕ) → i < length (recordsOf b) → Valid (withoutCircuit i b)
+  confirmation-valid i h =
       subst Valid (sym (without-form b v i h))
-      (valid-of (b .n) (b .w) (b .grants) (without i (liveOf b)) (v .nodes) (v .colours) (v .few)
-      (without-valid (b .n) (b .w) (b .grants) (liveOf b) i (v .circuits) h))
+      (valid-of (b .n) (b .w) (b .grants) (without i (recordsOf b)) (v .nodes) (v .colours) (v .few)
+      (without-valid (b .n) (b .w) (b .grants) (recordsOf b) i (v .circuits) h))
 
   -- the operations
   pub grant-valid : (x y way colour : ℕ) → Valid (granted b x y way colour .book)
@@ -119,17 +125,15 @@ module _ (b : Book) (v : Valid b) where
       go (verdict.Refused r) g = v
 
   pub remove-valid : (s : ℕ) → Valid (removed b s .book)
-  unfolding removed
-  remove-valid s = go (lookup b s) (found-place b s)
-    where
-      go : (l : Lookup) → ((i : ℕ) (c : Circuit) → l ≡ Found i c → i < length (liveOf b)) → Valid (removeFound l (missing b s) b .book)
-      go (Found i c) f = removal-valid i (f i c refl)
-      go Missing f = v
+  remove-valid s = removal-cases b s (λ d. Valid (d .book)) (λ i h serial live. removal-valid i h) (λ r. v)
+
+  pub confirm-valid : (s : ℕ) → Valid (confirmed b s .book)
+  confirm-valid s = confirmation-cases b s (λ d. Valid (d .book)) (λ i h serial pending. confirmation-valid i h) (λ r. v)
 
 pub keeps-valid : KeepsValid
 keeps-valid = record {
   opening = λ n w e. subst Valid (sym (opened-book n w e)) (opened-valid n w e);
   granting = grant-valid;
-  removing =
-      remove-valid;
+  removing = remove-valid;
+  confirming = confirm-valid;
 }

@@ -31,11 +31,11 @@ good-arguments n w x y way colour e =
     record { ordered = ends .0; nodes = ends .1; colours = leb-false w colour (refuse-allowed (leb w colour) ColourNumber (q .1)) }
 
 -- neither 12 nor 13
-pub good-room : (live grants : ℕ) → roomVerdict live grants ≡ Allowed → (live < 512) × (grants < 65535)
+pub good-room : (records grants : ℕ) → roomVerdict records grants ≡ Allowed → (records < 512) × (grants < 65535)
 unfolding roomVerdict
-good-room live grants e =
-    let p = both-allowed (refuseIf (leb 512 live) BookFull) (refuseIf (leb 65535 grants) SerialsUsedUp) e in (
-      leb-false 512 live (refuse-allowed (leb 512 live) BookFull (p .0)),
+good-room records grants e =
+    let p = both-allowed (refuseIf (leb 512 records) BookFull) (refuseIf (leb 65535 grants) SerialsUsedUp) e in (
+      leb-false 512 records (refuse-allowed (leb 512 records) BookFull (p .0)),
       leb-false 65535 grants (refuse-allowed (leb 65535 grants) SerialsUsedUp (p .1)),
     )
 
@@ -43,7 +43,7 @@ good-room live grants e =
 pub record GoodGrant (b : Book) (x y way colour : ℕ) : Type 0 where
   pub arguments : GoodArguments (b .n) (b .w) x y way colour
   pub free : colourHeld b (wayOf way) (requestOf x y) colour ≡ false
-  pub places : b .live < 512
+  pub places : b .records < 512
   pub serials : b .grants < 65535
 
 pub good-grant : (b : Book) (x y way colour : ℕ) → grantVerdict b x y way colour ≡ Allowed → GoodGrant b x y way colour
@@ -51,9 +51,9 @@ unfolding grantVerdict
 good-grant b x y way colour e =
     let held = colourHeld b (wayOf way) (requestOf x y) colour in
     let p = both-allowed (argumentVerdict (b .n) (b .w) x y way colour)
-    (orElse (refuseIf held ColourHeld) (roomVerdict (b .live) (b .grants))) e in
-    let q = both-allowed (refuseIf held ColourHeld) (roomVerdict (b .live) (b .grants)) (p .1) in
-    let r = good-room (b .live) (b .grants) (q .1) in
+    (orElse (refuseIf held ColourHeld) (roomVerdict (b .records) (b .grants))) e in
+    let q = both-allowed (refuseIf held ColourHeld) (roomVerdict (b .records) (b .grants)) (p .1) in
+    let r = good-room (b .records) (b .grants) (q .1) in
     record {
       arguments = good-arguments (b .n) (b .w) x y way colour (p .0);
       free = refuse-allowed held ColourHeld (q .0);

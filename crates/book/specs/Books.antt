@@ -1,8 +1,8 @@
--- Books in one form: the live circuits by rising serial, vacant records behind them.
+-- Books in one form: the records, live and pending, by rising serial, vacant ones behind them.
 use Prim.Native.Nat.{ℕ, _-_, _≤_, _<_}
 use mathlib.Core.Path.{_≡_}
-use mathlib.Core.Bool.{true, false}
-use mathlib.Core.List.{List, [], _++_}
+use mathlib.Core.Bool.{Bool, true, false, cond, not}
+use mathlib.Core.List.{List, [], _∷_, _++_}
 use lib.ListN.{length, take, replicate}
 use Rattle.ring.specs.declared.refusals.Verdict.{Verdict}
 use Rattle.ring.specs.declared.refusals.Verdict.the-variants as verdict
@@ -13,17 +13,39 @@ use Rattle.book.specs.declared.books.Book.{Book}
 use Rattle.book.specs.declared.books.OpenAnswer.{OpenAnswer}
 use Rattle.book.specs.declared.books.OpenAnswer.the-variants as answer
 use Rattle.book.specs.declared.books.Opened.{Opened}
-use Rattle.book.specs.Circuits.{vacant, circuit, holds}
+use Rattle.book.specs.Circuits.{vacant, isLive, circuit, someCircuit, holds}
 
--- the live circuits: the records of the first `live` places
+-- the records, live and pending: those of the first `records` places
+abbrev pub recordsOf : Book → List Circuit
+recordsOf b = take (b .records) (b .places)
+
+-- the live ones of some records
+abbrev pub liveIn : List Circuit → List Circuit
+liveIn [] = []
+liveIn (c ∷ cs) = cond (isLive c) (c ∷ liveIn cs) (liveIn cs)
+
+-- the pending ones
+abbrev pub pendingIn : List Circuit → List Circuit
+pendingIn [] = []
+pendingIn (c ∷ cs) = cond (isLive c) (pendingIn cs) (c ∷ pendingIn cs)
+
+-- the live circuits; "the live count does not include pending records": it is their number
 abbrev pub liveOf : Book → List Circuit
-liveOf b = take (b .live) (b .places)
+liveOf b = liveIn (recordsOf b)
 
--- "n, w, the number of grants so far and 512 places, one circuit record per place", with these live circuits
+-- the pending circuits
+abbrev pub pendingOf : Book → List Circuit
+pendingOf b = pendingIn (recordsOf b)
+
+-- "a book with a pending record"
+unfoldable pub hasPending : Book → Bool
+hasPending b = someCircuit (recordsOf b) (λ c. not (isLive c))
+
+-- "n, w, the number of grants so far and 512 places, one circuit record per place", with these records
 abbrev pub bookOf : ℕ → ℕ → ℕ → List Circuit → Book
-bookOf n w grants cs = record { n = n; w = w; grants = grants; live = length cs; places = cs ++ replicate (512 - length cs) vacant }
+bookOf n w grants cs = record { n = n; w = w; grants = grants; records = length cs; places = cs ++ replicate (512 - length cs) vacant }
 
--- circuits that a book on n nodes with w colours can have live after so many grants
+-- records, live and pending, that a book on n nodes with w colours can have after so many grants
 pub record ValidCircuits (n w grants : ℕ) (cs : List Circuit) : Type 0 where
   -- "one circuit record per place", of 512 places
   pub room : length cs ≤ 512
@@ -45,16 +67,17 @@ pub record Valid (b : Book) : Type 0 where
   pub colours : (1 ≤ b .w) × (b .w ≤ 128)
   -- "Serials are 16 bits"
   pub few : b .grants ≤ 65535
-  -- the live circuits first, vacant records behind them
-  pub form : b ≡ bookOf (b .n) (b .w) (b .grants) (liveOf b)
-  pub circuits : ValidCircuits (b .n) (b .w) (b .grants) (liveOf b)
+  -- the records first, vacant ones behind them
+  pub form : b ≡ bookOf (b .n) (b .w) (b .grants) (recordsOf b)
+  pub circuits : ValidCircuits (b .n) (b .w) (b .grants) (recordsOf b)
 
--- books "are the same if n, w, grants so far and live circuits agree"
+-- books "are the same if n, w, grants so far and live circuits agree", and "only if their pending circuits agree too"
 pub record Same (b d : Book) : Type 0 where
   pub nodes : b .n ≡ d .n
   pub colours : b .w ≡ d .w
   pub grants : b .grants ≡ d .grants
-  pub circuits : liveOf b ≡ liveOf d
+  pub live : liveOf b ≡ liveOf d
+  pub pending : pendingOf b ≡ pendingOf d
 
 -- the promise that valid books are the same only if they are equal: their form settles the places
 abbrev pub SameMeans : Type 0

@@ -1,17 +1,36 @@
--- Circuits, and the colours that they hold on links.
+-- Circuits, their states, and the colours that they hold on links.
 use Prim.Native.Nat.{ℕ}
-use mathlib.Core.Bool.{Bool, false, _&&_, _||_}
+use mathlib.Core.Bool.{Bool, true, false, _&&_, _||_}
 use mathlib.Core.List.{List, [], _∷_}
 use lib.Dec.{eqb}
 use lib.ListN.{getD}
 use Rattle.ring.specs.declared.requests.Request.{Request}
 use Rattle.ring.specs.declared.ways.Way.the-variants.{Plain}
 use Rattle.ring.specs.Ways.{uses}
+use Rattle.book.specs.declared.circuits.RecordState.{RecordState}
+use Rattle.book.specs.declared.circuits.RecordState.the-variants.{Live, Pending}
 use Rattle.book.specs.declared.circuits.Circuit.{Circuit}
 
 -- the record of a place that holds no circuit
 abbrev pub vacant : Circuit
-vacant = record { serial = 0; a = 0; b = 0; way = Plain; colour = 0 }
+vacant = record { serial = 0; a = 0; b = 0; way = Plain; colour = 0; state = Live }
+
+-- a state is that of a live circuit, or "pending": removed, and its pull not confirmed
+abbrev pub liveState : RecordState → Bool
+liveState Live = true
+liveState Pending = false
+
+-- the circuit is live
+abbrev pub isLive : Circuit → Bool
+isLive c = liveState (c .state)
+
+-- the same circuit in another state
+abbrev pub inState : RecordState → Circuit → Circuit
+inState state c = record { serial = c .serial; a = c .a; b = c .b; way = c .way; colour = c .colour; state = state }
+
+-- "A removal .. leaves the record pending"
+abbrev pub asPending : Circuit → Circuit
+asPending c = inState Pending c
 
 -- circuit i of a list; a number past the list has no meaning, and gets the vacant record
 abbrev pub circuit : List Circuit → ℕ → Circuit

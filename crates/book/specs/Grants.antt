@@ -18,21 +18,23 @@ use Rattle.ring.specs.Ways.{uses, someLink}
 use Rattle.ring.specs.Refusals.{refuseIf, orElse}
 use Rattle.ring.specs.Answers.{InNumbers, gives, refuses}
 use Rattle.ring.specs.Admission.{endsVerdict}
+use Rattle.book.specs.declared.circuits.RecordState.the-variants.{Live}
 use Rattle.book.specs.declared.circuits.Circuit.{Circuit}
 use Rattle.book.specs.declared.books.Book.{Book}
 use Rattle.book.specs.declared.grants.GrantAnswer.{GrantAnswer}
 use Rattle.book.specs.declared.grants.GrantAnswer.the-variants as answer
 use Rattle.book.specs.declared.grants.Granted.{Granted}
 use Rattle.book.specs.Circuits.{someCircuit, holds}
-use Rattle.book.specs.Books.{liveOf, Valid}
+use Rattle.book.specs.Books.{recordsOf, Valid}
 
 -- "way not 0 (plain) or 1 (seam)"
 abbrev pub wayOf : ℕ → Way
 wayOf way = cond (eqb way 0) Plain Seam
 
--- the circuit of a grant; its "order of ends has no meaning", the smaller is a
+-- the circuit of a grant, live; its "order of ends has no meaning", the smaller is a
 abbrev pub circuitOf : ℕ → ℕ → ℕ → ℕ → ℕ → Circuit
-circuitOf serial x y way colour = record { serial = serial; a = requestOf x y .a; b = requestOf x y .b; way = wayOf way; colour = colour }
+circuitOf serial x y way colour =
+    record { serial = serial; a = requestOf x y .a; b = requestOf x y .b; way = wayOf way; colour = colour; state = Live }
 
 -- some circuit holds the colour on the link
 unfoldable pub heldIn : List Circuit → ℕ → ℕ → Bool
@@ -42,9 +44,9 @@ heldIn cs link colour = someCircuit cs (λ c. holds c link colour)
 unfoldable pub heldOnWay : ℕ → List Circuit → Way → Request → ℕ → Bool
 heldOnWay n cs way r colour = someLink n (λ link. uses way r link && heldIn cs link colour)
 
--- "that colour is held on a link of the way"
+-- "that colour is held on a link of the way", by a live circuit or a pending one
 unfoldable pub colourHeld : Book → Way → Request → ℕ → Bool
-colourHeld b way r colour = heldOnWay (b .n) (liveOf b) way r colour
+colourHeld b way r colour = heldOnWay (b .n) (recordsOf b) way r colour
 
 -- "4, 5, 9 way not 0 (plain) or 1 (seam), 10 colour w or more": the grounds that lie in the arguments alone
 unfoldable pub argumentVerdict : ℕ → ℕ → ℕ → ℕ → ℕ → ℕ → Verdict
@@ -53,10 +55,10 @@ argumentVerdict n w x y way colour =
     (orElse (refuseIf (ltb 1 way) WayNumber)
     (refuseIf (leb w colour) ColourNumber))
 
--- "12 512 live, 13 serial 65,535 has been given"
+-- "12 512 live", and "12 counts both", live and pending; "13 serial 65,535 has been given"
 unfoldable pub roomVerdict : ℕ → ℕ → Verdict
-roomVerdict live grants =
-    orElse (refuseIf (leb 512 live) BookFull)
+roomVerdict records grants =
+    orElse (refuseIf (leb 512 records) BookFull)
     (refuseIf (leb 65535 grants) SerialsUsedUp)
 
 -- 4, 5, 9, 10, "11 that colour is held on a link of the way", 12, 13, "tested in the order written"
@@ -64,11 +66,11 @@ unfoldable pub grantVerdict : Book → ℕ → ℕ → ℕ → ℕ → Verdict
 grantVerdict b x y way colour =
     orElse (argumentVerdict (b .n) (b .w) x y way colour)
     (orElse (refuseIf (colourHeld b (wayOf way) (requestOf x y) colour) ColourHeld)
-    (roomVerdict (b .live) (b .grants)))
+    (roomVerdict (b .records) (b .grants)))
 
--- the book with one circuit more, behind the live ones, and one grant more
+-- the book with one circuit more, behind its records, and one grant more
 abbrev pub withCircuit : Book → Circuit → Book
-withCircuit b c = record { n = b .n; w = b .w; grants = b .grants + 1; live = b .live + 1; places = set (b .places) (b .live) c }
+withCircuit b c = record { n = b .n; w = b .w; grants = b .grants + 1; records = b .records + 1; places = set (b .places) (b .records) c }
 
 -- the grant of a circuit; a refused grant changes nothing
 abbrev pub grantUnless : Verdict → Book → Circuit → Granted

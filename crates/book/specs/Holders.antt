@@ -13,7 +13,7 @@ use Rattle.book.specs.declared.books.Book.{Book}
 use Rattle.book.specs.declared.holders.HolderAnswer.{HolderAnswer}
 use Rattle.book.specs.declared.holders.HolderAnswer.the-variants.{Free, Held, Refused}
 use Rattle.book.specs.Circuits.{holds}
-use Rattle.book.specs.Books.{liveOf}
+use Rattle.book.specs.Books.{recordsOf}
 
 -- the serial of the first circuit that holds the colour on the link; in a valid book no other circuit holds it
 unfoldable pub holderIn : List Circuit → ℕ → ℕ → HolderAnswer
@@ -31,7 +31,7 @@ holderUnless (verdict.Refused r) holder = Refused r
 
 -- "The answer is free or a serial."
 unfoldable pub heldBy : Book → ℕ → ℕ → HolderAnswer
-heldBy b link colour = holderUnless (holderVerdict b link colour) (holderIn (liveOf b) link colour)
+heldBy b link colour = holderUnless (holderVerdict b link colour) (holderIn (recordsOf b) link colour)
 
 -- in numbers: 0, which is no serial, for free
 abbrev pub holderInNumbers : HolderAnswer → InNumbers

@@ -6,6 +6,7 @@ pub mod Grants
 pub mod Previews
 pub mod Orders
 pub mod Removals
+pub mod Confirmations
 pub mod Places
 pub mod NoNodes
 pub mod History

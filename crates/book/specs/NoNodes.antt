@@ -6,12 +6,14 @@ use Rattle.ring.specs.declared.refusals.Refusal.the-variants.{CircuitEnd, Seria
 use Rattle.ring.specs.declared.refusals.Verdict.the-variants.{Refused}
 use Rattle.book.specs.declared.books.Book.{Book}
 use Rattle.book.specs.declared.removals.RemoveAnswer.the-variants as remove
+use Rattle.book.specs.declared.confirmations.ConfirmAnswer.the-variants as confirm
 use Rattle.book.specs.declared.orders.ShowAnswer.the-variants as show
 use Rattle.book.specs.declared.holders.HolderAnswer.the-variants as holder
 use Rattle.book.specs.Books.{bookOf}
 use Rattle.book.specs.Grants.{argumentVerdict}
 use Rattle.book.specs.Orders.{shown}
 use Rattle.book.specs.Removals.{removed}
+use Rattle.book.specs.Confirmations.{confirmed}
 use Rattle.book.specs.Holders.{heldBy}
 
 -- a book of no nodes
@@ -23,5 +25,6 @@ noNodes = bookOf 0 0 0 []
 pub record TurnsAllDown : Type 0 where
   pub grants : (x y way colour : ℕ) → argumentVerdict (noNodes .n) (noNodes .w) x y way colour ≡ Refused CircuitEnd
   pub removals : (serial : ℕ) → removed noNodes serial ≡ record { answer = remove.Refused SerialNeverGiven; book = noNodes }
+  pub confirmations : (serial : ℕ) → confirmed noNodes serial ≡ record { answer = confirm.Refused SerialNeverGiven; book = noNodes }
   pub orders : (serial : ℕ) → shown noNodes serial ≡ show.Refused SerialNeverGiven
   pub holders : (link colour : ℕ) → heldBy noNodes link colour ≡ holder.Refused LinkNumber

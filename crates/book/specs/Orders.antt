@@ -13,20 +13,26 @@ use Rattle.book.specs.declared.orders.Lookup.{Lookup}
 use Rattle.book.specs.declared.orders.Lookup.the-variants.{Found, Missing}
 use Rattle.book.specs.declared.orders.ShowAnswer.{ShowAnswer}
 use Rattle.book.specs.declared.orders.ShowAnswer.the-variants.{Shown, Refused}
-use Rattle.book.specs.Books.{liveOf}
+use Rattle.book.specs.Circuits.{isLive}
+use Rattle.book.specs.Books.{recordsOf}
 
 -- "serial 0 or never given", after so many grants
 unfoldable pub neverGiven : ℕ → ℕ → Bool
 neverGiven grants serial = eqb serial 0 || ltb grants serial
 
--- the first circuit of that serial, with its place counted from i
+-- the first record of that serial, with its place counted from i
 unfoldable pub lookupIn : ℕ → List Circuit → ℕ → Lookup
 lookupIn i [] serial = Missing
 lookupIn i (c ∷ cs) serial = cond (eqb (c .serial) serial) (Found i c) (lookupIn (i + 1) cs serial)
 
--- the order of a serial, if it is live
+-- the record of a serial, live or pending
 unfoldable pub lookup : Book → ℕ → Lookup
-lookup b serial = cond (neverGiven (b .grants) serial) Missing (lookupIn 0 (liveOf b) serial)
+lookup b serial = cond (neverGiven (b .grants) serial) Missing (lookupIn 0 (recordsOf b) serial)
+
+-- the record, if it is live: "its order is answered 15" as soon as it is pending
+abbrev pub liveFound : Lookup → Lookup
+liveFound (Found i c) = cond (isLive c) (Found i c) Missing
+liveFound Missing = Missing
 
 -- "14 serial 0 or never given, 15 removed", of a serial that is not live
 unfoldable pub missing : Book → ℕ → Refusal
@@ -39,7 +45,7 @@ showFound Missing r = Refused r
 
 -- "Show gives a, b, way and colour."
 unfoldable pub shown : Book → ℕ → ShowAnswer
-shown b serial = showFound (lookup b serial) (missing b serial)
+shown b serial = showFound (liveFound (lookup b serial)) (missing b serial)
 
 -- its answer in numbers
 abbrev pub showInNumbers : ShowAnswer → InNumbers

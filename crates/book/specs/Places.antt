@@ -8,11 +8,12 @@ use Rattle.ring.specs.declared.refusals.Refusal.the-variants.{BookFull}
 use Rattle.book.specs.declared.circuits.Circuit.{Circuit}
 use Rattle.book.specs.declared.books.Book.{Book}
 use Rattle.book.specs.declared.grants.GrantAnswer.the-variants as grant
-use Rattle.book.specs.declared.removals.RemoveAnswer.the-variants as remove
+use Rattle.book.specs.declared.confirmations.ConfirmAnswer.the-variants as confirm
 use Rattle.book.specs.Circuits.{vacant, circuit}
 use Rattle.book.specs.Books.{Valid}
 use Rattle.book.specs.Grants.{circuitOf, granted}
 use Rattle.book.specs.Removals.{removed}
+use Rattle.book.specs.Confirmations.{confirmed}
 
 -- a record takes a place that is vacant, so that no other record has it, and all others stay where they are
 pub record TakesVacantPlace (before after : Book) (c : Circuit) : Type 0 where
@@ -32,9 +33,11 @@ pub record PlacesPromise (b : Book) : Type 0 where
   -- "which place a record takes", "but no other record has it"
   pub takes : (x y way colour serial : ℕ) → granted b x y way colour .answer ≡ grant.Granted serial
       → TakesVacantPlace b (granted b x y way colour .book) (circuitOf serial x y way colour)
-  -- "A removal frees the place"
-  pub frees : (serial : ℕ) → removed b serial .answer ≡ remove.Removed
-      → vacantPlaces (removed b serial .book .places) ≡ suc (vacantPlaces (b .places))
+  -- after a removal "place and colour stay held"
+  pub stays : (serial : ℕ) → vacantPlaces (removed b serial .book .places) ≡ vacantPlaces (b .places)
+  -- "Confirming frees both"
+  pub frees : (serial : ℕ) → confirmed b serial .answer ≡ confirm.Confirmed
+      → vacantPlaces (confirmed b serial .book .places) ≡ suc (vacantPlaces (b .places))
   -- "freed places are used again": the book is full only if no place is vacant
   pub full : (x y way colour : ℕ) → granted b x y way colour .answer ≡ grant.Refused BookFull → vacantPlaces (b .places) ≡ 0
 

@@ -1,20 +1,22 @@
-// Books by value, in one form: the live circuits first, by rising serial, vacant records behind them.
+// Books by value, in one form: the records, live and pending, first and by rising serial, vacant ones behind them.
 use super::circuits::Circuit;
+use super::circuits::is_live;
 use ring::Refusal;
 use ring::Ring;
 use ring::numbers::wide;
 use ring::rings::RingAnswer;
 ghost use mathlib.Core.List.{[]};
 ghost use mathlib.Core.Path.{_≡_};
-ghost use Prim.Native.Nat.{_≤_};
+ghost use mathlib.Core.Bool.{cond};
+ghost use Prim.Native.Nat.{_+_, _≤_, _<_};
 ghost use lib.ListN.{length};
-ghost use Rattle.book.specs.Books.{liveOf, bookOf, opened};
+ghost use Rattle.book.specs.Books.{recordsOf, liveOf, hasPending, bookOf, opened};
 
 pub struct Book {
     pub n: u16,
     pub w: u16,
     pub grants: u16,
-    pub live: u16,
+    pub records: u16,
     pub places: [Circuit; 512],
 }
 
@@ -41,7 +43,7 @@ impl Book {
             n: n,
             w: w,
             grants: grants,
-            live: 0,
+            records: 0,
             places: places,
         }
     }
@@ -70,14 +72,53 @@ pub fn open(n: u16, w: u16) -> Opened
     }
 }
 
-// The number of live circuits: of any value of the struct, never more than there are places.
-pub fn live_count(book: Book) -> usize
-    ensures { λ r. ⌜ (r ≡ length (liveOf book)) × (r ≤ 512) ⌝ }
+// The number of records, live and pending: of any value of the struct, never more than there are places.
+pub fn record_count(book: Book) -> usize
+    ensures { λ r. ⌜ (r ≡ length (recordsOf book)) × (r ≤ 512) ⌝ }
 {
-    let live = wide(book.live);
-    if live < Book::PLACES {
-        live
+    let count = wide(book.records);
+    if count < Book::PLACES {
+        count
     } else {
         Book::PLACES
     }
+}
+
+// A count, or one more than it.
+fn counted(count: u16, counts: bool) -> u16
+    requires { ⌜ count < 65535 ⌝ }
+    ensures { λ r. ⌜ r ≡ count + cond counts 1 0 ⌝ }
+{
+    if counts { count + 1 } else { count }
+}
+
+// The number of live circuits.
+pub fn live_count(book: Book) -> u16
+    ensures { λ r. ⌜ r ≡ length (liveOf book) ⌝ }
+{
+    let records = record_count(book);
+    let mut live: u16 = 0;
+    let mut i: usize = 0;
+    while i < records {
+        let circuit = book.places[i];
+        live = counted(live, is_live(circuit));
+        i += 1;
+    }
+    live
+}
+
+// Whether some record is pending.
+pub fn has_pending(book: Book) -> bool
+    ensures { λ r. ⌜ r ≡ hasPending book ⌝ }
+{
+    let records = record_count(book);
+    let mut i: usize = 0;
+    while i < records {
+        let circuit = book.places[i];
+        if !is_live(circuit) {
+            return true;
+        }
+        i += 1;
+    }
+    false
 }

@@ -4,14 +4,22 @@ use ring::Way;
 use ring::flags::both;
 use ring::ways::uses;
 ghost use mathlib.Core.Path.{_≡_};
-ghost use Rattle.book.specs.Circuits.{vacant, endsOf, holds};
+ghost use Rattle.book.specs.Circuits.{vacant, isLive, asPending, endsOf, holds};
 
-// The serial, the two ends with the smaller as a, the way and the colour.
+// A live circuit, or one that was removed and still shines until its pull is confirmed.
+pub enum RecordState {
+    Live,
+    Pending,
+}
+
+// The serial, the two ends with the smaller as a, the way, the state and the colour. Way and state lie side by side: a record has 10 bytes
+// and none to spare.
 pub struct Circuit {
     pub serial: u16,
     pub a: u16,
     pub b: u16,
     pub way: Way,
+    pub state: RecordState,
     pub colour: u16,
 }
 
@@ -25,6 +33,7 @@ impl Circuit {
             a: 0,
             b: 0,
             way: Way::Plain,
+            state: RecordState::Live,
             colour: 0,
         }
     }
@@ -37,6 +46,33 @@ pub fn ends_of(circuit: Circuit) -> Request
     Request {
         a: circuit.a,
         b: circuit.b,
+    }
+}
+
+// Whether the circuit is live.
+pub fn is_live(circuit: Circuit) -> bool
+    ensures { λ r. ⌜ r ≡ isLive circuit ⌝ }
+{
+    let state = circuit.state;
+    match state {
+        RecordState::Live => true,
+        RecordState::Pending => false,
+    }
+}
+
+// The same circuit, pending.
+pub fn as_pending(circuit: Circuit) -> Circuit
+    ensures { λ r. ⌜ r ≡ asPending circuit ⌝ }
+{
+    let way = circuit.way;
+    let ends = ends_of(circuit);
+    Circuit {
+        serial: circuit.serial,
+        a: ends.a,
+        b: ends.b,
+        way: way,
+        state: RecordState::Pending,
+        colour: circuit.colour,
     }
 }
 

@@ -1,7 +1,8 @@
 // Granting a circuit.
 use super::books::Book;
-use super::books::live_count;
+use super::books::record_count;
 use super::circuits::Circuit;
+use super::circuits::RecordState;
 use super::circuits::ends_of;
 use ring::Refusal;
 use ring::Request;
@@ -14,7 +15,7 @@ use ring::refusals::refuse_if;
 use ring::requests::ends_verdict;
 use ring::ways::ways_share;
 ghost use mathlib.Core.Path.{_≡_};
-ghost use Rattle.book.specs.Books.{liveOf};
+ghost use Rattle.book.specs.Books.{recordsOf};
 ghost use Rattle.book.specs.Grants.{wayOf, circuitOf, argumentVerdict, roomVerdict, GrantPromise};
 ghost use Rattle.book.specs.Internal.Conflicts.{conflicts, conflictIn, verdictByEnds};
 ghost use Rattle.book.specs.Internal.Entering.{nextSerial, entered};
@@ -47,13 +48,13 @@ fn conflicts(circuit: Circuit, way: Way, request: Request, colour: u16) -> bool
     )
 }
 
-// Whether some live circuit does.
+// Whether some record, live or pending, does.
 fn colour_held(book: Book, way: Way, request: Request, colour: u16) -> bool
-    ensures { λ r. ⌜ r ≡ conflictIn (liveOf book) way request colour ⌝ }
+    ensures { λ r. ⌜ r ≡ conflictIn (recordsOf book) way request colour ⌝ }
 {
-    let live = live_count(book);
+    let records = record_count(book);
     let mut i: usize = 0;
-    while i < live {
+    while i < records {
         let circuit = book.places[i];
         if conflicts(circuit, way, request, colour) {
             return true;
@@ -74,10 +75,10 @@ fn argument_verdict(n: u16, w: u16, x: u16, y: u16, way: u16, colour: u16) -> Ve
 }
 
 // 12 or 13, if there is no place or no serial for one circuit more.
-fn room_verdict(live: u16, grants: u16) -> Verdict
-    ensures { λ r. ⌜ r ≡ roomVerdict live grants ⌝ }
+fn room_verdict(records: u16, grants: u16) -> Verdict
+    ensures { λ r. ⌜ r ≡ roomVerdict records grants ⌝ }
 {
-    let places = refuse_if(512 <= live, Refusal::BookFull);
+    let places = refuse_if(512 <= records, Refusal::BookFull);
     let serials = refuse_if(65535 <= grants, Refusal::SerialsUsedUp);
     or_else(places, serials)
 }
@@ -93,7 +94,7 @@ fn grant_verdict(book: Book, x: u16, y: u16, way: u16, colour: u16) -> Verdict
         colour_held(book, route, request, colour),
         Refusal::ColourHeld,
     );
-    let room = room_verdict(book.live, book.grants);
+    let room = room_verdict(book.records, book.grants);
     or_else(arguments, or_else(held, room))
 }
 
@@ -115,22 +116,23 @@ fn circuit_of(serial: u16, x: u16, y: u16, way: u16, colour: u16) -> Circuit
         a: request.a,
         b: request.b,
         way: route,
+        state: RecordState::Live,
         colour: colour,
     }
 }
 
-// The book with one circuit more, behind the live ones, if there is a place for it.
+// The book with one circuit more, behind its records, if there is a place for it.
 fn enter(book: Book, circuit: Circuit) -> Book
     ensures { λ r. ⌜ r ≡ entered book circuit ⌝ }
 {
-    let live = book.live;
-    if 512 <= live {
+    let records = book.records;
+    if 512 <= records {
         return book;
     }
     let mut changed = book;
-    let place = wide(live);
+    let place = wide(records);
     changed.places[place] = circuit;
-    changed.live = live + 1;
+    changed.records = records + 1;
     changed.grants = next_serial(book.grants);
     changed
 }

@@ -1,6 +1,6 @@
 // The holder of a colour on a link.
 use super::books::Book;
-use super::books::live_count;
+use super::books::record_count;
 use super::circuits::Circuit;
 use super::circuits::holds;
 use ring::Refusal;
@@ -34,12 +34,12 @@ fn holder_place(circuits: &[Circuit], link: u16, colour: u16) -> usize
     i
 }
 
-// The same of the live circuits, which are lent from the places.
-fn holder_search(places: [Circuit; 512], live: usize, link: u16, colour: u16) -> usize
-    requires { ⌜ live ≤ 512 ⌝ }
-    ensures { λ r. ⌜ r ≡ holderPlace 0 (take live places) link colour ⌝ }
+// The same of the records, live and pending, which are lent from the places.
+fn holder_search(places: [Circuit; 512], records: usize, link: u16, colour: u16) -> usize
+    requires { ⌜ records ≤ 512 ⌝ }
+    ensures { λ r. ⌜ r ≡ holderPlace 0 (take records places) link colour ⌝ }
 {
-    holder_place(&places[..live], link, colour)
+    holder_place(&places[..records], link, colour)
 }
 
 // Who holds a colour on a link, or refusal 16 or 10.
@@ -52,10 +52,10 @@ pub fn holder(book: Book, link: u16, colour: u16) -> HolderAnswer
     if let Verdict::Refused(refusal) = verdict {
         return HolderAnswer::Refused(refusal);
     }
-    let live = live_count(book);
+    let records = record_count(book);
     let places = book.places;
-    let place = holder_search(places, live, link, colour);
-    if place < live {
+    let place = holder_search(places, records, link, colour);
+    if place < records {
         let circuit = book.places[place];
         HolderAnswer::Held(circuit.serial)
     } else {

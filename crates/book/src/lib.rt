@@ -1,7 +1,8 @@
-// The ring book: which circuits are live, by which ways, in which colours, under which serials.
+// The ring book: which circuits are live or pending, by which ways, in which colours, under which serials.
 pub mod books;
 pub mod bundles;
 pub mod circuits;
+pub mod confirmations;
 pub mod grants;
 pub mod holders;
 pub mod orders;
@@ -13,6 +14,7 @@ pub use books::open;
 pub use bundles::Bundle;
 pub use bundles::Line;
 pub use circuits::Circuit;
+pub use confirmations::confirm;
 pub use grants::grant;
 pub use holders::holder;
 pub use orders::show;

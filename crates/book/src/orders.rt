@@ -1,14 +1,15 @@
 // Looking an order up and showing it.
 use super::books::Book;
-use super::books::live_count;
+use super::books::record_count;
 use super::circuits::Circuit;
+use super::circuits::is_live;
 use ring::Refusal;
 use ring::flags::either;
 ghost use mathlib.Core.Path.{_≡_};
-ghost use Rattle.book.specs.Books.{liveOf};
-ghost use Rattle.book.specs.Orders.{neverGiven, lookupIn, lookup, missing, shown};
+ghost use Rattle.book.specs.Books.{recordsOf};
+ghost use Rattle.book.specs.Orders.{neverGiven, lookupIn, lookup, liveFound, missing, shown};
 
-// The record of an order, with its place among the live circuits.
+// The record of an order, with its place.
 pub enum Lookup {
     Found(usize, Circuit),
     Missing,
@@ -20,19 +21,19 @@ pub enum ShowAnswer {
 }
 
 // Whether the serial is 0 or was never given.
-fn never_given(grants: u16, serial: u16) -> bool
+pub fn never_given(grants: u16, serial: u16) -> bool
     ensures { λ r. ⌜ r ≡ neverGiven grants serial ⌝ }
 {
     either(serial == 0, grants < serial)
 }
 
-// The first live circuit of that serial.
+// The first record of that serial.
 fn find(book: Book, serial: u16) -> Lookup
-    ensures { λ r. ⌜ r ≡ lookupIn 0 (liveOf book) serial ⌝ }
+    ensures { λ r. ⌜ r ≡ lookupIn 0 (recordsOf book) serial ⌝ }
 {
-    let live = live_count(book);
+    let records = record_count(book);
     let mut i: usize = 0;
-    while i < live {
+    while i < records {
         let circuit = book.places[i];
         if circuit.serial == serial {
             return Lookup::Found(i, circuit);
@@ -42,7 +43,7 @@ fn find(book: Book, serial: u16) -> Lookup
     Lookup::Missing
 }
 
-// The order of a serial, if it is live.
+// The record of a serial, live or pending.
 pub fn look_up(book: Book, serial: u16) -> Lookup
     ensures { λ r. ⌜ r ≡ lookup book serial ⌝ }
 {
@@ -50,6 +51,20 @@ pub fn look_up(book: Book, serial: u16) -> Lookup
         return Lookup::Missing;
     }
     find(book, serial)
+}
+
+// The record of a serial, if it is live.
+pub fn look_up_live(book: Book, serial: u16) -> Lookup
+    ensures { λ r. ⌜ r ≡ liveFound (lookup book serial) ⌝ }
+{
+    let Lookup::Found(place, circuit) = look_up(book, serial) else {
+        return Lookup::Missing;
+    };
+    if is_live(circuit) {
+        Lookup::Found(place, circuit)
+    } else {
+        Lookup::Missing
+    }
 }
 
 // 14 or 15, for a serial that is not live.
@@ -66,7 +81,7 @@ pub fn missing(book: Book, serial: u16) -> Refusal
 pub fn show(book: Book, serial: u16) -> ShowAnswer
     ensures { λ r. ⌜ r ≡ shown book serial ⌝ }
 {
-    let Lookup::Found(_, circuit) = look_up(book, serial) else {
+    let Lookup::Found(_, circuit) = look_up_live(book, serial) else {
         return ShowAnswer::Refused(missing(book, serial));
     };
     ShowAnswer::Shown(circuit)

@@ -1,17 +1,12 @@
-// Removing a circuit.
+// Removing a circuit: its record stays, pending.
 use super::books::Book;
-use super::books::live_count;
-use super::circuits::Circuit;
+use super::circuits::as_pending;
 use super::orders::Lookup;
-use super::orders::look_up;
+use super::orders::look_up_live;
 use super::orders::missing;
 use ring::Refusal;
-use ring::numbers::narrow;
 ghost use mathlib.Core.Path.{_≡_};
-ghost use Prim.Native.Nat.{_<_};
-ghost use lib.ListN.{length};
-ghost use Rattle.book.specs.Books.{liveOf};
-ghost use Rattle.book.specs.Removals.{withoutCircuit, removed};
+ghost use Rattle.book.specs.Removals.{removed};
 
 pub enum RemoveAnswer {
     Removed,
@@ -23,36 +18,19 @@ pub struct Removed {
     pub book: Book,
 }
 
-// The book without the circuit at a live place: the later ones move down by one, and the last place falls vacant.
-fn close_gap(book: Book, place: usize) -> Book
-    requires { ⌜ place < length (liveOf book) ⌝ }
-    ensures { λ r. ⌜ r ≡ withoutCircuit place book ⌝ }
-{
-    let mut changed = book;
-    let last = live_count(book) - 1;
-    let mut i = place;
-    while i < last {
-        let circuit = changed.places[i + 1];
-        changed.places[i] = circuit;
-        i += 1;
-    }
-    let vacant = Circuit::vacant();
-    changed.places[last] = vacant;
-    changed.live = narrow(last);
-    changed
-}
-
-// The book without the order of the serial, or the same book and refusal 14 or 15.
+// The book with the order of the serial pending, or the same book and refusal 14 or 15.
 pub fn remove(book: Book, serial: u16) -> Removed
     ensures { λ r. ⌜ r ≡ removed book serial ⌝ }
 {
-    let Lookup::Found(place, _) = look_up(book, serial) else {
+    let Lookup::Found(place, circuit) = look_up_live(book, serial) else {
         return Removed {
             answer: RemoveAnswer::Refused(missing(book, serial)),
             book: book,
         };
     };
-    let changed = close_gap(book, place);
+    let mut changed = book;
+    let pending = as_pending(circuit);
+    changed.places[place] = pending;
     Removed {
         answer: RemoveAnswer::Removed,
         book: changed,

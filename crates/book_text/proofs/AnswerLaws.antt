@@ -15,11 +15,15 @@ use Rattle.book.specs.declared.grants.GrantAnswer.the-variants as grant
 use Rattle.book.specs.declared.removals.Removed.{Removed}
 use Rattle.book.specs.declared.removals.RemoveAnswer.{RemoveAnswer}
 use Rattle.book.specs.declared.removals.RemoveAnswer.the-variants as remove
+use Rattle.book.specs.declared.confirmations.Confirmed.{Confirmed}
+use Rattle.book.specs.declared.confirmations.ConfirmAnswer.{ConfirmAnswer}
+use Rattle.book.specs.declared.confirmations.ConfirmAnswer.the-variants as confirm
 use Rattle.book.specs.declared.orders.ShowAnswer.{ShowAnswer}
 use Rattle.book.specs.declared.holders.HolderAnswer.{HolderAnswer}
-use Rattle.book.specs.Books.{Valid, opened}
+use Rattle.book.specs.Books.{hasPending, Valid, opened}
 use Rattle.book.specs.Grants.{granted}
 use Rattle.book.specs.Removals.{removed}
+use Rattle.book.specs.Confirmations.{confirmed}
 use Rattle.book.specs.Orders.{shown}
 use Rattle.book.specs.Holders.{heldBy}
 use Rattle.book.proofs.Validity.{keeps-valid}
@@ -37,9 +41,9 @@ use Rattle.book_text.specs.declared.answers.Contents.{Contents}
 use Rattle.book_text.specs.declared.answers.Reply.{Reply}
 use Rattle.book_text.specs.declared.answers.Reply.the-variants as reply
 use Rattle.book_text.specs.declared.answers.Answered.{Answered}
-use Rattle.book_text.specs.Answers.{stateOf, contentsIn, ValidContents, openingBy, grantingBy, removingBy, showingBy, holdingBy}
-use Rattle.book_text.specs.Answers.{openingAnswer, grantAnswer, removeAnswer, showReply, holderReply, turnedDown, answeredNone}
-use Rattle.book_text.specs.Answers.{answeredBook, answeredIn, answered}
+use Rattle.book_text.specs.Answers.{stateOf, contentsIn, ValidContents, storing, openingBy, grantingBy, removingBy, confirmingBy}
+use Rattle.book_text.specs.Answers.{showingBy, holdingBy, openingAnswer, grantAnswer, removeAnswer, confirmAnswer, showReply}
+use Rattle.book_text.specs.Answers.{holderReply, turnedDown, answeredNone, answeredBook, answeredIn, answered}
 
 -- what a file holds, from what load answers
 pub find-none : (present : Bool) (bytes : List ℕ) {o : Opened} → present ≡ false → o ≡ opened 0 0
@@ -64,6 +68,10 @@ module _ (b : Book) where
   pub remove-told : (serial : ℕ) {d : Removed} {a : RemoveAnswer} → d ≡ removed b serial → d .answer ≡ a
       → removingBy b serial a (d .book) ≡ removeAnswer b serial
   remove-told serial q p = rw (← q, p) refl
+
+  pub confirm-told : (serial : ℕ) {d : Confirmed} {a : ConfirmAnswer} → d ≡ confirmed b serial → d .answer ≡ a
+      → confirmingBy b serial a (d .book) ≡ confirmAnswer b serial
+  confirm-told serial q p = rw (← q, p) refl
 
   pub show-told : (serial : ℕ) {a z : ShowAnswer} → a ≡ shown b serial → a ≡ z → showingBy z ≡ showReply b serial
   show-told serial q p = ap showingBy (sym p ∙ q)
@@ -95,11 +103,13 @@ previews reply.Previewed = true
 previews (reply.Opened n w) = false
 previews (reply.Granted serial) = false
 previews (reply.Removed serial) = false
+previews (reply.Confirmed serial) = false
 previews (reply.Circuit x y way colour) = false
 previews reply.Free = false
 previews (reply.Held serial) = false
 previews (reply.Count live grants) = false
 previews reply.Orders = false
+previews reply.PendingOrders = false
 previews (reply.Refused r) = false
 previews reply.BookThere = false
 previews reply.NoBook = false
@@ -117,10 +127,12 @@ none-previews b (command.Open n w) = go (opened n w .answer) (opened n w .book)
 none-previews b (command.Grant x y way colour) = refl
 none-previews b command.Preview = refl
 none-previews b (command.Remove serial) = refl
+none-previews b (command.Confirm serial) = refl
 none-previews b (command.Show serial) = refl
 none-previews b (command.Holder link colour) = refl
 none-previews b command.Count = refl
 none-previews b command.List = refl
+none-previews b command.Pending = refl
 none-previews b (command.Aside a) = refl
 
 broken-previews : (b : Book) (r : Refusal) (c : Command) → previews (turnedDown b (reply.Refused r) c .reply) ≡ false
@@ -128,30 +140,57 @@ broken-previews b r (command.Open n w) = refl
 broken-previews b r (command.Grant x y way colour) = refl
 broken-previews b r command.Preview = refl
 broken-previews b r (command.Remove serial) = refl
+broken-previews b r (command.Confirm serial) = refl
 broken-previews b r (command.Show serial) = refl
 broken-previews b r (command.Holder link colour) = refl
 broken-previews b r command.Count = refl
 broken-previews b r command.List = refl
+broken-previews b r command.Pending = refl
 broken-previews b r (command.Aside a) = refl
 
-book-valid : (b : Book) → Valid b → (c : Command) → Valid (answeredBook b c .book)
-book-valid b v (command.Open n w) = v
-book-valid b v (command.Grant x y way colour) = go (granted b x y way colour .answer) (keeps-valid .granting b v x y way colour)
-  where
-    go : (a : GrantAnswer) {d : Book} → Valid d → Valid (grantingBy b a d .book)
-    go (grant.Granted serial) u = u
-    go (grant.Refused r) u = v
-book-valid b v command.Preview = v
-book-valid b v (command.Remove serial) = go (removed b serial .answer) (keeps-valid .removing b v serial)
-  where
-    go : (a : RemoveAnswer) {d : Book} → Valid d → Valid (removingBy b serial a d .book)
-    go remove.Removed u = u
-    go (remove.Refused r) u = v
-book-valid b v (command.Show serial) = v
-book-valid b v (command.Holder link colour) = v
-book-valid b v command.Count = v
-book-valid b v command.List = v
-book-valid b v (command.Aside a) = v
+-- the book of an answer: the one that was there, or an accepted one without a pending record
+module _ (P : Book → Type 0) (b : Book) (old : P b) where
+  after-storing : (next : Book) (reply : Reply) → (hasPending next ≡ false → P next) → P (storing (hasPending next) b next reply .book)
+  after-storing next reply new = go (hasPending next) refl
+    where
+      go : (t : Bool) → hasPending next ≡ t → P (storing t b next reply .book)
+      go true e = old
+      go false e = new e
+
+  pub after-answer : ((x y way colour : ℕ) → let d = granted b x y way colour .book in hasPending d ≡ false → P d)
+      → ((serial : ℕ) → let d = removed b serial .book in hasPending d ≡ false → P d)
+      → ((serial : ℕ) → let d = confirmed b serial .book in hasPending d ≡ false → P d) → (c : Command) → P (answeredBook b c .book)
+  after-answer g r f (command.Open n w) = old
+  after-answer g r f (command.Grant x y way colour) = go (granted b x y way colour .answer)
+    where
+      go : (a : GrantAnswer) → P (grantingBy b a (granted b x y way colour .book) .book)
+      go (grant.Granted serial) = after-storing (granted b x y way colour .book) (reply.Granted serial) (g x y way colour)
+      go (grant.Refused q) = old
+  after-answer g r f command.Preview = old
+  after-answer g r f (command.Remove serial) = go (removed b serial .answer)
+    where
+      go : (a : RemoveAnswer) → P (removingBy b serial a (removed b serial .book) .book)
+      go remove.Removed = after-storing (removed b serial .book) (reply.Removed serial) (r serial)
+      go (remove.Refused q) = old
+  after-answer g r f (command.Confirm serial) = go (confirmed b serial .answer)
+    where
+      go : (a : ConfirmAnswer) → P (confirmingBy b serial a (confirmed b serial .book) .book)
+      go confirm.Confirmed = after-storing (confirmed b serial .book) (reply.Confirmed serial) (f serial)
+      go (confirm.Refused q) = old
+  after-answer g r f (command.Show serial) = old
+  after-answer g r f (command.Holder link colour) = old
+  after-answer g r f command.Count = old
+  after-answer g r f command.List = old
+  after-answer g r f command.Pending = old
+  after-answer g r f (command.Aside a) = old
+
+pub book-valid : (b : Book) → Valid b → (c : Command) → Valid (answeredBook b c .book)
+book-valid b v c =
+    after-answer Valid b v (λ x y way colour e. keeps-valid .granting b v x y way colour) (λ serial e. keeps-valid .removing b v serial)
+    (λ serial e. keeps-valid .confirming b v serial) c
+
+pub book-live : (b : Book) → hasPending b ≡ false → (c : Command) → hasPending (answeredBook b c .book) ≡ false
+book-live b e c = after-answer (λ d. hasPending d ≡ false) b e (λ x y way colour h. h) (λ serial h. h) (λ serial h. h) c
 
 pub previewed-valid : (contents : Contents) (c : Command) → ValidContents contents → {r : Answered} → r ≡ answered contents c
     → r .reply ≡ reply.Previewed → Valid (r .book)

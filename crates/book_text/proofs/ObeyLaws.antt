@@ -13,11 +13,11 @@ use Rattle.texts.specs.Internal.Writing.{Wrote}
 use Rattle.texts.proofs.WritingLaws.{wrote-front, wrote-length}
 use Rattle.book.specs.declared.books.Book.{Book}
 use Rattle.book.specs.Books.{Valid}
-use Rattle.book.proofs.Places.{live-length}
+use Rattle.book.proofs.Places.{records-length}
 use Rattle.stored.specs.declared.stores.StoreAnswer.{StoreAnswer}
 use Rattle.stored.specs.declared.stores.StoreAnswer.the-variants as store
 use Rattle.stored.specs.Forms.{storedForm}
-use Rattle.stored.specs.Storing.{lengthOf, storeAnswer, afterStore}
+use Rattle.stored.specs.Storing.{lengthOf, formAnswer, afterForm}
 use Rattle.stored.proofs.StoreLaws.{form-length, store-answer, store-copied}
 use Rattle.book_text.specs.declared.lines.Command.{Command}
 use Rattle.book_text.specs.declared.answers.Contents.{Contents}
@@ -33,20 +33,20 @@ use Rattle.book_text.proofs.AnswerLaws.{valid-found, previewed-valid}
 module _ (b : Book) (places : length (b .places) ≡ 512) (form : List ℕ) (room : 5120 ≤ length form) where
   form-room : lengthOf b ≤ length form
   form-room =
-      let live = live-length b places in
+      let live = records-length b places in
       omega arith
 
-  stored-whole : {answer : StoreAnswer} → answer ≡ storeAnswer b form → answer ≡ store.Stored (lengthOf b)
+  stored-whole : {answer : StoreAnswer} → answer ≡ formAnswer b form → answer ≡ store.Stored (lengthOf b)
   stored-whole e = e ∙ sym (store-answer b form (lengthOf b) refl form-room)
 
-  pub form-refused : {A : Type 0} {answer : StoreAnswer} {r : Refusal} → answer ≡ storeAnswer b form → answer ≡ store.Refused r → A
+  pub form-refused : {A : Type 0} {answer : StoreAnswer} {r : Refusal} → answer ≡ formAnswer b form → answer ≡ store.Refused r → A
   form-refused {A} {answer} {r} e q =
       let same : store.Refused r ≡ store.Stored (lengthOf b) = sym q ∙ stored-whole e in
       let z : true ≡ false = cc in
       impossible z
 
-  pub form-put : {answer : StoreAnswer} {size : ℕ} {after : List ℕ} → answer ≡ storeAnswer b form
-      → answer ≡ store.Stored size → after ≡ afterStore b form → Wrote form 0 (storedForm b) after size
+  pub form-put : {answer : StoreAnswer} {size : ℕ} {after : List ℕ} → answer ≡ formAnswer b form
+      → answer ≡ store.Stored size → after ≡ afterForm b form → Wrote form 0 (storedForm b) after size
   unfolding written
   form-put {answer} {size} {after} e q a =
       let same : store.Stored size ≡ store.Stored (lengthOf b) = sym q ∙ stored-whole e in

@@ -3,6 +3,8 @@ use Prim.Native.Nat.{ℕ}
 use mathlib.Core.Path.{_≡_}
 use mathlib.Core.Bool.{Bool, true, false}
 use mathlib.Core.List.{List, []}
+use lib.ListN.{length}
+use Rattle.ring.specs.declared.refusals.Refusal.the-variants.{PendingRecord}
 use Rattle.book.specs.declared.books.Book.{Book}
 use Rattle.book.specs.declared.books.OpenAnswer.{OpenAnswer}
 use Rattle.book.specs.declared.books.OpenAnswer.the-variants as opening
@@ -10,13 +12,16 @@ use Rattle.book.specs.declared.grants.GrantAnswer.{GrantAnswer}
 use Rattle.book.specs.declared.grants.GrantAnswer.the-variants as grant
 use Rattle.book.specs.declared.removals.RemoveAnswer.{RemoveAnswer}
 use Rattle.book.specs.declared.removals.RemoveAnswer.the-variants as remove
+use Rattle.book.specs.declared.confirmations.ConfirmAnswer.{ConfirmAnswer}
+use Rattle.book.specs.declared.confirmations.ConfirmAnswer.the-variants as confirm
 use Rattle.book.specs.declared.orders.ShowAnswer.{ShowAnswer}
 use Rattle.book.specs.declared.orders.ShowAnswer.the-variants as show
 use Rattle.book.specs.declared.holders.HolderAnswer.{HolderAnswer}
 use Rattle.book.specs.declared.holders.HolderAnswer.the-variants as holder
-use Rattle.book.specs.Books.{Valid, bookOf, opened}
+use Rattle.book.specs.Books.{liveOf, hasPending, Valid, bookOf, opened}
 use Rattle.book.specs.Grants.{granted}
 use Rattle.book.specs.Removals.{removed}
+use Rattle.book.specs.Confirmations.{confirmed}
 use Rattle.book.specs.Orders.{shown}
 use Rattle.book.specs.Holders.{heldBy}
 use Rattle.stored.specs.declared.loads.LoadAnswer.{LoadAnswer}
@@ -28,8 +33,8 @@ use Rattle.book_text.specs.declared.answers.State.{State}
 use Rattle.book_text.specs.declared.answers.State.the-variants.{Absent, Broken, Sound}
 use Rattle.book_text.specs.declared.answers.Contents.{Contents}
 use Rattle.book_text.specs.declared.answers.Reply.{Reply}
-use Rattle.book_text.specs.declared.answers.Reply.the-variants.{Opened, Granted, Previewed, Removed, Circuit, Free, Held}
-use Rattle.book_text.specs.declared.answers.Reply.the-variants.{Count, Orders, Refused, BookThere, NoBook, Aside}
+use Rattle.book_text.specs.declared.answers.Reply.the-variants.{Opened, Granted, Previewed, Removed, Confirmed, Circuit, Free, Held}
+use Rattle.book_text.specs.declared.answers.Reply.the-variants.{Count, Orders, PendingOrders, Refused, BookThere, NoBook, Aside}
 use Rattle.book_text.specs.declared.answers.Answered.{Answered}
 
 -- the state of a file by what load answers
@@ -54,6 +59,11 @@ only b reply = record { reply = reply; changes = false; book = b }
 abbrev pub replacing : Book → Reply → Answered
 replacing b reply = record { reply = reply; changes = true; book = b }
 
+-- a change that the book accepted, with the book after it: one with a pending record is not stored, and all stays as it is
+abbrev pub storing : Bool → Book → Book → Reply → Answered
+storing true b next reply = only b (Refused PendingRecord)
+storing false b next reply = replacing next reply
+
 -- opening, by the book's own answer: a refusal changes nothing
 abbrev pub openingBy : Book → ℕ → ℕ → OpenAnswer → Book → Answered
 openingBy b n w opening.Opened fresh = replacing fresh (Opened n w)
@@ -61,13 +71,18 @@ openingBy b n w (opening.Refused r) fresh = only b (Refused r)
 
 -- a grant, by the book's own answer
 abbrev pub grantingBy : Book → GrantAnswer → Book → Answered
-grantingBy b (grant.Granted serial) next = replacing next (Granted serial)
+grantingBy b (grant.Granted serial) next = storing (hasPending next) b next (Granted serial)
 grantingBy b (grant.Refused r) next = only b (Refused r)
 
 -- a removal, by the book's own answer
 abbrev pub removingBy : Book → ℕ → RemoveAnswer → Book → Answered
-removingBy b serial remove.Removed next = replacing next (Removed serial)
+removingBy b serial remove.Removed next = storing (hasPending next) b next (Removed serial)
 removingBy b serial (remove.Refused r) next = only b (Refused r)
+
+-- a confirmation, by the book's own answer
+abbrev pub confirmingBy : Book → ℕ → ConfirmAnswer → Book → Answered
+confirmingBy b serial confirm.Confirmed next = storing (hasPending next) b next (Confirmed serial)
+confirmingBy b serial (confirm.Refused r) next = only b (Refused r)
 
 -- what show replies, by the book's own answer
 abbrev pub showingBy : ShowAnswer → Reply
@@ -92,6 +107,10 @@ grantAnswer b x y way colour = grantingBy b (granted b x y way colour .answer) (
 abbrev pub removeAnswer : Book → ℕ → Answered
 removeAnswer b serial = removingBy b serial (removed b serial .answer) (removed b serial .book)
 
+-- `confirm SERIAL`
+abbrev pub confirmAnswer : Book → ℕ → Answered
+confirmAnswer b serial = confirmingBy b serial (confirmed b serial .answer) (confirmed b serial .book)
+
 -- `show SERIAL`
 abbrev pub showReply : Book → ℕ → Reply
 showReply b serial = showingBy (shown b serial)
@@ -106,10 +125,12 @@ turnedDown b reply (command.Open n w) = only b reply
 turnedDown b reply (command.Grant x y way colour) = only b reply
 turnedDown b reply command.Preview = only b reply
 turnedDown b reply (command.Remove serial) = only b reply
+turnedDown b reply (command.Confirm serial) = only b reply
 turnedDown b reply (command.Show serial) = only b reply
 turnedDown b reply (command.Holder link colour) = only b reply
 turnedDown b reply command.Count = only b reply
 turnedDown b reply command.List = only b reply
+turnedDown b reply command.Pending = only b reply
 turnedDown b reply (command.Aside a) = only b (Aside a)
 
 -- where there is no file, a book may be opened
@@ -118,10 +139,12 @@ answeredNone b (command.Open n w) = openingAnswer b n w
 answeredNone b (command.Grant x y way colour) = only b NoBook
 answeredNone b command.Preview = only b NoBook
 answeredNone b (command.Remove serial) = only b NoBook
+answeredNone b (command.Confirm serial) = only b NoBook
 answeredNone b (command.Show serial) = only b NoBook
 answeredNone b (command.Holder link colour) = only b NoBook
 answeredNone b command.Count = only b NoBook
 answeredNone b command.List = only b NoBook
+answeredNone b command.Pending = only b NoBook
 answeredNone b (command.Aside a) = only b (Aside a)
 
 -- where there is a book, it is asked
@@ -130,10 +153,12 @@ answeredBook b (command.Open n w) = only b BookThere
 answeredBook b (command.Grant x y way colour) = grantAnswer b x y way colour
 answeredBook b command.Preview = only b Previewed
 answeredBook b (command.Remove serial) = removeAnswer b serial
+answeredBook b (command.Confirm serial) = confirmAnswer b serial
 answeredBook b (command.Show serial) = only b (showReply b serial)
 answeredBook b (command.Holder link colour) = only b (holderReply b link colour)
-answeredBook b command.Count = only b (Count (b .live) (b .grants))
+answeredBook b command.Count = only b (Count (length (liveOf b)) (b .grants))
 answeredBook b command.List = only b Orders
+answeredBook b command.Pending = only b PendingOrders
 answeredBook b (command.Aside a) = only b (Aside a)
 
 -- by the state of the file: one that load refuses gets its refusal for an answer

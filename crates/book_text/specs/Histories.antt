@@ -1,16 +1,21 @@
 -- What every run of lines comes to: the book in the file goes through the book's own histories.
 use Prim.Native.Nat.{ℕ}
 use mathlib.Core.Path.{_≡_}
+use mathlib.Core.Bool.{Bool, false, cond}
 use mathlib.Core.List.{List, [], _∷_, _++_}
+use lib.Dec.{eqb}
 use Rattle.ring.specs.declared.refusals.Verdict.the-variants.{Allowed}
+use Rattle.ring.specs.Refusals.{numberOf}
 use Rattle.ring.specs.Admission.{ringVerdict}
 use Rattle.texts.specs.Bytes.{bytes}
 use Rattle.book.specs.Books.{opened}
-use Rattle.book.specs.History.{Call, Grant, Remove, Show, Holder, run}
+use Rattle.book.specs.History.{Call, Grant, Remove, Confirm, Show, Holder, run}
 use Rattle.stored.specs.Forms.{storedForm}
 use Rattle.stored.specs.Histories.{StoredAfter}
 use Rattle.book_text.specs.declared.lines.Command.{Command}
 use Rattle.book_text.specs.declared.lines.Command.the-variants as command
+use Rattle.book_text.specs.declared.answers.Reply.{Reply}
+use Rattle.book_text.specs.declared.answers.Reply.the-variants as reply
 use Rattle.book_text.specs.Lines.{commandOf}
 use Rattle.book_text.specs.Answers.{answeredBook}
 use Rattle.book_text.specs.Promises.{File, none, holding, lineAnswer, fileAfter, obeyed}
@@ -26,16 +31,37 @@ called (command.Open n w) calls = calls
 called (command.Grant x y way colour) calls = Grant x y way colour ∷ calls
 called command.Preview calls = calls
 called (command.Remove serial) calls = Remove serial ∷ calls
+called (command.Confirm serial) calls = Confirm serial ∷ calls
 called (command.Show serial) calls = Show serial ∷ calls
 called (command.Holder link colour) calls = Holder link colour ∷ calls
 called command.Count calls = calls
 called command.List calls = calls
+called command.Pending calls = calls
 called (command.Aside a) calls = calls
 
--- the calls of lines, the latest first
-abbrev pub callsOf : List (List ℕ) → List Call
-callsOf [] = []
-callsOf (line ∷ lines) = called (commandOf line) (callsOf lines)
+-- the reply to a change that the book accepted and that is not stored: 25
+abbrev pub unstored : Reply → Bool
+unstored (reply.Refused r) = eqb (numberOf r) 25
+unstored (reply.Opened n w) = false
+unstored (reply.Granted serial) = false
+unstored reply.Previewed = false
+unstored (reply.Removed serial) = false
+unstored (reply.Confirmed serial) = false
+unstored (reply.Circuit x y way colour) = false
+unstored reply.Free = false
+unstored (reply.Held serial) = false
+unstored (reply.Count live grants) = false
+unstored reply.Orders = false
+unstored reply.PendingOrders = false
+unstored reply.BookThere = false
+unstored reply.NoBook = false
+unstored (reply.Aside a) = false
+
+-- the calls of lines to a file, the latest first, without those that are not stored
+abbrev pub callsOf : File → List (List ℕ) → List Call
+callsOf file [] = []
+callsOf file (line ∷ lines) =
+    cond (unstored (obeyed (fileAfterAll file lines) line .reply)) (callsOf file lines) (called (commandOf line) (callsOf file lines))
 
 -- a file that holds the book after these calls from an opening, and answers each line as that book does
 pub record FileHolds (n w : ℕ) (calls : List Call) (file : File) : Type 0 where
@@ -49,14 +75,14 @@ pub record LineHistories : Type 0 where
   pub opening : (n w : ℕ) → ringVerdict n w ≡ Allowed → (line : List ℕ) → commandOf line ≡ command.Open n w
       → fileAfter none line ≡ holding (storedForm (opened n w .book))
   pub lines : (n w : ℕ) → ringVerdict n w ≡ Allowed → (lines : List (List ℕ))
-      → FileHolds n w (callsOf lines) (fileAfterAll (holding (storedForm (opened n w .book))) lines)
+      → let file = holding (storedForm (opened n w .book)) in FileHolds n w (callsOf file lines) (fileAfterAll file lines)
 
 -- the answers to lines, one behind the other
 abbrev pub lineAnswers : File → List (List ℕ) → List ℕ
 lineAnswers file [] = []
 lineAnswers file (line ∷ lines) = lineAnswer file line ++ lineAnswers (fileAfter file line) lines
 
--- T7 as it is typed
+-- T7 as it is typed: the stored form has no room for a pending record, so that the removal is turned down and order 1 stays
 abbrev pub TypedT7 : Type 0
 TypedT7 =
     lineAnswers none
@@ -67,8 +93,11 @@ TypedT7 =
     ∷ bytes "remove 1\n"
     ∷ bytes "grant 0 2 1 0\n"
     ∷ bytes "grant 0 1 0 0\n"
+    ∷ bytes "confirm 1\n"
     ∷ bytes "show 1\n"
     ∷ bytes "show 4\n"
     ∷ [])
-    ≡ bytes "opened 4 1\ngranted 1\ngranted 2\nrefused 11 that colour is held on a link of the way\nremoved 1\n"
-    ++ bytes "refused 11 that colour is held on a link of the way\ngranted 3\nrefused 15 removed\nrefused 14 serial 0 or never given\n"
+    ≡ bytes "opened 4 1\ngranted 1\ngranted 2\nrefused 11 that colour is held on a link of the way\n"
+    ++ (bytes "refused 25 a book with a pending record cannot be stored\nrefused 11 that colour is held on a link of the way\n"
+    ++ (bytes "refused 11 that colour is held on a link of the way\nrefused 23 the circuit is live\ncircuit 0 2 P 0\n"
+    ++ bytes "refused 14 serial 0 or never given\n"))

@@ -116,6 +116,10 @@ previewOf text = onLines (bundleOf text)
 unfoldable pub removeOf : List ℕ → Command
 removeOf text = onSingle (singleOf text) (λ serial. command.Remove serial)
 
+-- `SERIAL`, behind `confirm `
+unfoldable pub confirmOf : List ℕ → Command
+confirmOf text = onSingle (singleOf text) (λ serial. command.Confirm serial)
+
 -- `SERIAL`, behind `show `
 unfoldable pub showOf : List ℕ → Command
 showOf text = onSingle (singleOf text) (λ serial. command.Show serial)
@@ -134,10 +138,11 @@ commandWithNumbers text =
     onWord (bytes "open ") text openOf
     (onWord (bytes "grant ") text grantOf
     (onWord (bytes "remove ") text removeOf
+    (onWord (bytes "confirm ") text confirmOf
     (onWord (bytes "show ") text showOf
     (onWord (bytes "holder ") text holderOf
     (onWord (bytes "preview ") text previewOf
-    unreadable)))))
+    unreadable))))))
 
 -- the command of a line whose spaces are squeezed; `preview` alone tries no line
 unfoldable pub commandIn : List ℕ → Command
@@ -145,9 +150,10 @@ commandIn text =
     cond (sameBytes text (bytes "\n")) (command.Aside aside.Nothing)
     (cond (sameBytes text (bytes "count\n")) command.Count
     (cond (sameBytes text (bytes "list\n")) command.List
+    (cond (sameBytes text (bytes "pending\n")) command.Pending
     (cond (sameBytes text (bytes "help\n")) (command.Aside aside.Help)
     (cond (sameBytes text (bytes "preview\n")) command.Preview
-    (commandWithNumbers text)))))
+    (commandWithNumbers text))))))
 
 -- "several spaces count as one", and none at the ends of a line; `begun` says that a word came before, `apart` that spaces came since
 abbrev pub squeezedFrom : Bool → Bool → List ℕ → List ℕ

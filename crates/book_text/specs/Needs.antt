@@ -9,9 +9,11 @@ abbrev pub needOf : Command → Need
 needOf (command.Open n w) = Writing
 needOf (command.Grant x y way colour) = Writing
 needOf (command.Remove serial) = Writing
+needOf (command.Confirm serial) = Writing
 needOf command.Preview = Reading
 needOf (command.Show serial) = Reading
 needOf (command.Holder link colour) = Reading
 needOf command.Count = Reading
 needOf command.List = Reading
+needOf command.Pending = Reading
 needOf (command.Aside a) = Nothing

@@ -14,7 +14,7 @@ use Rattle.book.specs.declared.books.Book.{Book}
 use Rattle.book.specs.declared.previews.PreviewAnswer.{PreviewAnswer}
 use Rattle.book.specs.declared.previews.PreviewAnswer.the-variants as preview
 use Rattle.book.specs.declared.previews.Previewed.{Previewed}
-use Rattle.book.specs.Books.{liveOf}
+use Rattle.book.specs.Books.{liveOf, pendingOf}
 use Rattle.book.specs.Previews.{serialsOf, previewedAll}
 use Rattle.book_text.specs.declared.lines.Aside.{Aside}
 use Rattle.book_text.specs.declared.lines.Aside.the-variants as aside
@@ -46,6 +46,10 @@ linesOf (c ∷ cs) = orderText c ++ linesOf cs
 -- "a line for each live order by rising serial"
 unfoldable pub ordersText : Book → List ℕ
 ordersText b = linesOf (liveOf b)
+
+-- and the same of each order "whose pull is open"
+unfoldable pub pendingText : Book → List ℕ
+pendingText b = linesOf (pendingOf b)
 
 -- `refused NUMBER` and the ground
 unfoldable pub refusedText : Refusal → List ℕ
@@ -82,12 +86,14 @@ helpText =
     bytes "open N W              begins a book for a ring of N nodes and W colours\n"
     ++ (bytes "grant X Y WAY COLOUR  enters a circuit between nodes X and Y, WAY 0 plain or 1 seam, and gives its order a serial\n"
     ++ (bytes "preview LINE, ..      the serials that up to 16 grants would get, each LINE as X Y WAY COLOUR\n"
-    ++ (bytes "remove SERIAL         removes an order\n"
+    ++ (bytes "remove SERIAL         removes an order; its colour stays held until the pull is confirmed\n"
+    ++ (bytes "confirm SERIAL        confirms that a removed order's patch is pulled, and frees its colour\n"
     ++ (bytes "show SERIAL           the circuit of an order: its ends, P (plain) or S (seam), its colour\n"
     ++ (bytes "holder LINK COLOUR    the order that has the colour on the link\n"
     ++ (bytes "count                 how many orders are live, and how many were granted so far\n"
     ++ (bytes "list                  every live order with its circuit\n"
-    ++ bytes "help                  these lines\n")))))))
+    ++ (bytes "pending               every removed order whose pull is not yet confirmed, with its circuit\n"
+    ++ bytes "help                  these lines\n")))))))))
 
 -- the answer to a line that asks nothing of the book, as it was heard
 abbrev pub asideText : List ℕ → Aside → List ℕ
@@ -103,11 +109,13 @@ replyText text b (reply.Opened n w) = twoNumbers (bytes "opened ") n (bytes " ")
 replyText text b (reply.Granted serial) = oneNumber (bytes "granted ") serial
 replyText text b reply.Previewed = previewText (previewedAll b (linesIn text))
 replyText text b (reply.Removed serial) = oneNumber (bytes "removed ") serial
+replyText text b (reply.Confirmed serial) = oneNumber (bytes "confirmed ") serial
 replyText text b (reply.Circuit x y way colour) = circuitText (bytes "circuit ") x y way colour
 replyText text b reply.Free = bytes "free\n"
 replyText text b (reply.Held serial) = oneNumber (bytes "held ") serial
 replyText text b (reply.Count live grants) = twoNumbers (bytes "live ") live (bytes " grants ") grants
 replyText text b reply.Orders = ordersText b
+replyText text b reply.PendingOrders = pendingText b
 replyText text b (reply.Refused r) = refusedText r
 replyText text b reply.BookThere = bytes "error there is a book in the file already\n"
 replyText text b reply.NoBook = bytes "error there is no book yet (open N W begins one)\n"

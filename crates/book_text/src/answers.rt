@@ -3,6 +3,10 @@ use super::lines::Aside;
 use super::lines::Command;
 use book::Book;
 use book::books::OpenAnswer;
+use book::books::has_pending;
+use book::books::live_count;
+use book::confirm;
+use book::confirmations::ConfirmAnswer;
 use book::grant;
 use book::grants::GrantAnswer;
 use book::holder;
@@ -17,9 +21,9 @@ use ring::Way;
 use stored::loads::LoadAnswer;
 use stored::loads::load;
 ghost use mathlib.Core.Path.{_≡_};
-ghost use Rattle.book.specs.Books.{Valid};
-ghost use Rattle.book_text.specs.Answers.{contentsIn, ValidContents, only, replacing};
-ghost use Rattle.book_text.specs.Answers.{openingAnswer, grantAnswer, removeAnswer, showReply, holderReply};
+ghost use Rattle.book.specs.Books.{hasPending, Valid};
+ghost use Rattle.book_text.specs.Answers.{contentsIn, ValidContents, only, replacing, storing};
+ghost use Rattle.book_text.specs.Answers.{openingAnswer, grantAnswer, removeAnswer, confirmAnswer, showReply, holderReply};
 ghost use Rattle.book_text.specs.Answers.{turnedDown, answeredNone, answeredBook, answered};
 
 // There is no file, or no book can be read from it, or it holds a book.
@@ -40,11 +44,13 @@ pub enum Reply {
     Granted(u16),
     Previewed,
     Removed(u16),
+    Confirmed(u16),
     Circuit(u16, u16, Way, u16),
     Free,
     Held(u16),
     Count(u16, u16),
     Orders,
+    PendingOrders,
     Refused(Refusal),
     BookThere,
     NoBook,
@@ -107,6 +113,16 @@ fn replacing(book: Book, reply: Reply) -> Answered
     }
 }
 
+// A change that the book accepted: 25, and the book as it was, if the one after it has a pending record, which has no stored form.
+fn storing(book: Book, next: Book, reply: Reply) -> Answered
+    ensures { λ r. ⌜ r ≡ storing (hasPending next) book next reply ⌝ }
+{
+    if has_pending(next) {
+        return only(book, Reply::Refused(Refusal::PendingRecord));
+    }
+    replacing(next, reply)
+}
+
 fn answer_open(book: Book, n: u16, w: u16) -> Answered
     ensures { λ r. ⌜ r ≡ openingAnswer book n w ⌝ }
 {
@@ -126,7 +142,7 @@ fn answer_grant(book: Book, x: u16, y: u16, way: u16, colour: u16) -> Answered
     let answer = granted.answer;
     let next = granted.book;
     match answer {
-        GrantAnswer::Granted(serial) => replacing(next, Reply::Granted(serial)),
+        GrantAnswer::Granted(serial) => storing(book, next, Reply::Granted(serial)),
         GrantAnswer::Refused(refusal) => only(book, Reply::Refused(refusal)),
     }
 }
@@ -138,8 +154,20 @@ fn answer_remove(book: Book, serial: u16) -> Answered
     let answer = removed.answer;
     let next = removed.book;
     match answer {
-        RemoveAnswer::Removed => replacing(next, Reply::Removed(serial)),
+        RemoveAnswer::Removed => storing(book, next, Reply::Removed(serial)),
         RemoveAnswer::Refused(refusal) => only(book, Reply::Refused(refusal)),
+    }
+}
+
+fn answer_confirm(book: Book, serial: u16) -> Answered
+    ensures { λ r. ⌜ r ≡ confirmAnswer book serial ⌝ }
+{
+    let confirmed = confirm(book, serial);
+    let answer = confirmed.answer;
+    let next = confirmed.book;
+    match answer {
+        ConfirmAnswer::Confirmed => storing(book, next, Reply::Confirmed(serial)),
+        ConfirmAnswer::Refused(refusal) => only(book, Reply::Refused(refusal)),
     }
 }
 
@@ -176,10 +204,12 @@ fn turn_down(book: Book, reply: Reply, command: Command) -> Answered
         Command::Grant(_, _, _, _) => only(book, reply),
         Command::Preview => only(book, reply),
         Command::Remove(_) => only(book, reply),
+        Command::Confirm(_) => only(book, reply),
         Command::Show(_) => only(book, reply),
         Command::Holder(_, _) => only(book, reply),
         Command::Count => only(book, reply),
         Command::List => only(book, reply),
+        Command::Pending => only(book, reply),
         Command::Aside(aside) => only(book, Reply::Aside(aside)),
     }
 }
@@ -193,10 +223,12 @@ fn answer_none(book: Book, command: Command) -> Answered
         Command::Grant(_, _, _, _) => only(book, Reply::NoBook),
         Command::Preview => only(book, Reply::NoBook),
         Command::Remove(_) => only(book, Reply::NoBook),
+        Command::Confirm(_) => only(book, Reply::NoBook),
         Command::Show(_) => only(book, Reply::NoBook),
         Command::Holder(_, _) => only(book, Reply::NoBook),
         Command::Count => only(book, Reply::NoBook),
         Command::List => only(book, Reply::NoBook),
+        Command::Pending => only(book, Reply::NoBook),
         Command::Aside(aside) => only(book, Reply::Aside(aside)),
     }
 }
@@ -209,10 +241,12 @@ fn answer_book(book: Book, command: Command) -> Answered
         Command::Grant(x, y, way, colour) => answer_grant(book, x, y, way, colour),
         Command::Preview => only(book, Reply::Previewed),
         Command::Remove(serial) => answer_remove(book, serial),
+        Command::Confirm(serial) => answer_confirm(book, serial),
         Command::Show(serial) => only(book, answer_show(book, serial)),
         Command::Holder(link, colour) => only(book, answer_holder(book, link, colour)),
-        Command::Count => only(book, Reply::Count(book.live, book.grants)),
+        Command::Count => only(book, Reply::Count(live_count(book), book.grants)),
         Command::List => only(book, Reply::Orders),
+        Command::Pending => only(book, Reply::PendingOrders),
         Command::Aside(aside) => only(book, Reply::Aside(aside)),
     }
 }

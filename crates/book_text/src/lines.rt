@@ -10,7 +10,7 @@ use texts::fields::line;
 ghost use mathlib.Core.Path.{_≡_};
 ghost use Prim.Native.Nat.{_≤_};
 ghost use lib.ListN.{length, take, drop};
-ghost use Rattle.book_text.specs.Lines.{starts, singleOf, pairOf, openOf, grantOf, previewOf, removeOf, showOf, holderOf};
+ghost use Rattle.book_text.specs.Lines.{starts, singleOf, pairOf, openOf, grantOf, previewOf, removeOf, confirmOf, showOf, holderOf};
 ghost use Rattle.book.specs.Internal.Bundles.{Bundled};
 ghost use Rattle.book_text.specs.Lines.{linesIn, commandWithNumbers, commandIn, finished, heard, commandOf};
 
@@ -19,10 +19,12 @@ pub enum Command {
     Grant(u16, u16, u16, u16),
     Preview,
     Remove(u16),
+    Confirm(u16),
     Show(u16),
     Holder(u16, u16),
     Count,
     List,
+    Pending,
     Aside(Aside),
 }
 
@@ -153,6 +155,17 @@ fn remove_at(text: &[u8], at: usize) -> Command
     Command::Remove(serial)
 }
 
+fn confirm_at(text: &[u8], at: usize) -> Command
+    requires { ⌜ at ≤ length (now text) ⌝ }
+    ensures { λ r. ⌜ r ≡ confirmOf (drop at (now (text .entry))) ⌝ }
+{
+    let single = single_at(text, at);
+    let Single::One(serial) = single else {
+        return Command::Aside(Aside::Unreadable);
+    };
+    Command::Confirm(serial)
+}
+
 fn show_at(text: &[u8], at: usize) -> Command
     requires { ⌜ at ≤ length (now text) ⌝ }
     ensures { λ r. ⌜ r ≡ showOf (drop at (now (text .entry))) ⌝ }
@@ -188,6 +201,9 @@ fn numbers_in(text: &[u8]) -> Command
     if starts(b"remove ", text) {
         return remove_at(text, 7);
     }
+    if starts(b"confirm ", text) {
+        return confirm_at(text, 8);
+    }
     if starts(b"show ", text) {
         return show_at(text, 5);
     }
@@ -212,6 +228,9 @@ fn command_in(text: &[u8]) -> Command
     }
     if same_bytes(text, b"list\n") {
         return Command::List;
+    }
+    if same_bytes(text, b"pending\n") {
+        return Command::Pending;
     }
     if same_bytes(text, b"help\n") {
         return Command::Aside(Aside::Help);

@@ -6,7 +6,7 @@ use super::lines::read;
 use super::replies::put_reply;
 use book::Book;
 use stored::StoreAnswer;
-use stored::stores::store;
+use stored::stores::write_form;
 ghost use mathlib.Core.Path.{_≡_};
 ghost use Prim.Native.Nat.{_≤_};
 ghost use lib.ListN.{length};
@@ -38,11 +38,13 @@ fn need_of_command(command: Command) -> Need
         Command::Open(_, _) => Need::Writing,
         Command::Grant(_, _, _, _) => Need::Writing,
         Command::Remove(_) => Need::Writing,
+        Command::Confirm(_) => Need::Writing,
         Command::Preview => Need::Reading,
         Command::Show(_) => Need::Reading,
         Command::Holder(_, _) => Need::Reading,
         Command::Count => Need::Reading,
         Command::List => Need::Reading,
+        Command::Pending => Need::Reading,
         Command::Aside(_) => Need::Nothing,
     }
 }
@@ -57,12 +59,12 @@ pub fn need_of_line(line: &[u8]) -> Need
     need_of_command(command)
 }
 
-// Puts the stored form of a book into a buffer that has room for the longest.
+// Puts the stored form of a book into a buffer that has room for the longest. A book that changed has no pending record.
 fn put_form(form: &mut [u8], book: Book) -> usize
     requires { ⌜ 5120 ≤ length (now form) ⌝ }
     ensures { λ r. ⌜ Wrote (now (form .entry)) 0 (storedForm book) (now (form .exit)) r ⌝ }
 {
-    let answer = store(book, form);
+    let answer = write_form(book, form);
     let StoreAnswer::Stored(length) = answer else {
         return 0;
     };

@@ -4,7 +4,8 @@ use super::lines::Aside;
 use super::lines::bundle_in;
 use book::Book;
 use book::Circuit;
-use book::books::live_count;
+use book::books::record_count;
+use book::circuits::is_live;
 use book::preview;
 use book::previews::PreviewAnswer;
 use book::previews::Previewed;
@@ -18,14 +19,16 @@ use texts::words::put_way;
 use texts::writing::put;
 use texts::writing::put_byte;
 ghost use mathlib.Core.Path.{_≡_};
+ghost use mathlib.Core.List.{[], _∷_};
 ghost use Prim.Native.Nat.{_+_, _-_, _≤_, min};
 ghost use lib.ListN.{length};
 ghost use Rattle.texts.specs.Internal.Writing.{Wrote};
-ghost use Rattle.book.specs.Books.{Valid};
+ghost use Rattle.book.specs.Books.{recordsOf, Valid};
 ghost use Rattle.book.specs.Previews.{serialsOf, previewedAll};
 ghost use Rattle.book_text.specs.Lines.{linesIn};
-ghost use Rattle.book_text.specs.Replies.{oneNumber, twoNumbers, circuitText, orderText, ordersText};
+ghost use Rattle.book_text.specs.Replies.{oneNumber, twoNumbers, circuitText, orderText, linesOf};
 ghost use Rattle.book_text.specs.Replies.{refusedText, serialsText, wouldGrant, previewText, unreadableText, asideText, replyText};
+ghost use Rattle.book_text.specs.Internal.Listing.{isListed, listed};
 
 // A word and a number, on a line.
 fn put_one(out: &mut [u8], at: usize, word: &[u8], n: u16) -> usize
@@ -74,17 +77,38 @@ fn put_order(out: &mut [u8], at: usize, circuit: Circuit) -> usize
     put_circuit(out, next, b" ", circuit.a, circuit.b, way, circuit.colour)
 }
 
-// The lines of the live orders.
-fn put_orders(out: &mut [u8], book: Book) -> usize
-    requires { ⌜ 16384 ≤ length (now out) ⌝ }
-    ensures { λ next. ⌜ Wrote (now (out .entry)) 0 (ordersText book) (now (out .exit)) next ⌝ }
+// Whether a record is listed: among the live ones, or among the pending ones.
+fn is_listed(circuit: Circuit, live: bool) -> bool
+    ensures { λ r. ⌜ r ≡ isListed live circuit ⌝ }
 {
-    let live = live_count(book);
+    if live {
+        return is_live(circuit);
+    }
+    !is_live(circuit)
+}
+
+// The line of an order, if it is listed.
+fn put_listed(out: &mut [u8], at: usize, circuit: Circuit, live: bool) -> usize
+    requires { ⌜ at + 32 ≤ length (now out) ⌝ }
+    ensures { λ next. ⌜ Wrote (now (out .entry)) at (linesOf (listed live (circuit ∷ []))) (now (out .exit)) next ⌝ }
+{
+    if is_listed(circuit, live) {
+        return put_order(out, at, circuit);
+    }
+    at
+}
+
+// The lines of the live orders, or of the pending ones.
+fn put_orders(out: &mut [u8], book: Book, live: bool) -> usize
+    requires { ⌜ 16384 ≤ length (now out) ⌝ }
+    ensures { λ next. ⌜ Wrote (now (out .entry)) 0 (linesOf (listed live (recordsOf book))) (now (out .exit)) next ⌝ }
+{
+    let records = record_count(book);
     let mut next: usize = 0;
     let mut i: usize = 0;
-    while i < live {
+    while i < records {
         let circuit = book.places[i];
-        next = put_order(out, next, circuit);
+        next = put_listed(out, next, circuit, live);
         i += 1;
     }
     next
@@ -194,11 +218,13 @@ fn put_aside(out: &mut [u8], aside: Aside, text: &[u8]) -> usize
             b"open N W              begins a book for a ring of N nodes and W colours\n\
 grant X Y WAY COLOUR  enters a circuit between nodes X and Y, WAY 0 plain or 1 seam, and gives its order a serial\n\
 preview LINE, ..      the serials that up to 16 grants would get, each LINE as X Y WAY COLOUR\n\
-remove SERIAL         removes an order\n\
+remove SERIAL         removes an order; its colour stays held until the pull is confirmed\n\
+confirm SERIAL        confirms that a removed order's patch is pulled, and frees its colour\n\
 show SERIAL           the circuit of an order: its ends, P (plain) or S (seam), its colour\n\
 holder LINK COLOUR    the order that has the colour on the link\n\
 count                 how many orders are live, and how many were granted so far\n\
 list                  every live order with its circuit\n\
+pending               every removed order whose pull is not yet confirmed, with its circuit\n\
 help                  these lines\n",
         ),
         Aside::Nothing => 0,
@@ -226,11 +252,13 @@ pub fn put_reply(out: &mut [u8], reply: Reply, text: &[u8], book: Book) -> usize
         Reply::Granted(serial) => put_one(out, 0, b"granted ", serial),
         Reply::Previewed => put_tried(out, text, book),
         Reply::Removed(serial) => put_one(out, 0, b"removed ", serial),
+        Reply::Confirmed(serial) => put_one(out, 0, b"confirmed ", serial),
         Reply::Circuit(a, b, way, colour) => put_circuit(out, 0, b"circuit ", a, b, way, colour),
         Reply::Free => put(out, 0, b"free\n"),
         Reply::Held(serial) => put_one(out, 0, b"held ", serial),
         Reply::Count(live, grants) => put_two(out, b"live ", live, b" grants ", grants),
-        Reply::Orders => put_orders(out, book),
+        Reply::Orders => put_orders(out, book, true),
+        Reply::PendingOrders => put_orders(out, book, false),
         Reply::Refused(refusal) => put_refused(out, 0, refusal),
         Reply::BookThere => put(out, 0, b"error there is a book in the file already\n"),
         Reply::NoBook => put(

@@ -7,13 +7,14 @@ use Rattle.book.specs.Books.{opened}
 use Rattle.book.specs.Grants.{heldIn, heldOnWay, colourHeld, argumentVerdict, roomVerdict, grantVerdict, granted}
 use Rattle.book.specs.Orders.{neverGiven, lookupIn, lookup, missing, shown}
 use Rattle.book.specs.Removals.{removed}
+use Rattle.book.specs.Confirmations.{absent, confirmed}
 use Rattle.stored.specs.Blocks.{checkOf}
 use Rattle.cases.specs.Table.{T7, T8, T9}
 
 pub t7 : T7
 unfolding opened ringVerdict endsVerdict granted grantVerdict argumentVerdict roomVerdict colourHeld heldOnWay heldIn someCircuit holds uses
-    someLink removed lookup lookupIn missing neverGiven shown
-t7 = record { answers = refl; colour-held = refl; never-given = refl; gone = refl }
+    someLink removed confirmed lookup lookupIn missing absent neverGiven shown
+t7 = record { answers = refl; unconfirmed = refl; colour-held = refl; never-given = refl; gone = refl }
 
 pub t8 : T8
 unfolding checkOf

@@ -1,6 +1,8 @@
 // What the offered operations answer, as lines of text.
 use book::Book;
 use book::books::OpenAnswer;
+use book::confirm;
+use book::confirmations::ConfirmAnswer;
 use book::grant;
 use book::grants::GrantAnswer;
 use book::holder;
@@ -169,6 +171,24 @@ pub fn show_removal(book: Book, serial: u16) -> Book {
     let answer = removed.answer;
     write_removal(answer);
     removed.book
+}
+
+fn write_confirmation(answer: ConfirmAnswer) {
+    match answer {
+        ConfirmAnswer::Confirmed => write(b"confirm: confirmed\n"),
+        ConfirmAnswer::Refused(refusal) => {
+            write(b"confirm: ");
+            write_refusal(refusal);
+        }
+    }
+}
+
+// A confirmation, and the book after it.
+pub fn show_confirmation(book: Book, serial: u16) -> Book {
+    let confirmed = confirm(book, serial);
+    let answer = confirmed.answer;
+    write_confirmation(answer);
+    confirmed.book
 }
 
 // The holder of colour 0 on a link.

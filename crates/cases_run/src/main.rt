@@ -3,6 +3,7 @@
 mod answers;
 
 use answers::show_check;
+use answers::show_confirmation;
 use answers::show_grant;
 use answers::show_holder;
 use answers::show_open;
@@ -10,6 +11,7 @@ use answers::show_plan;
 use answers::show_removal;
 use answers::show_start;
 use answers::write;
+use book::Book;
 use book::open;
 
 // Ring and number of colours outside the limits.
@@ -38,8 +40,7 @@ fn latest_end() {
 }
 
 // The start pairs requests 0 and 1 and leaves 2 and 3, which cross: no free pair enlarges it, and there are two pairs. The line `start`
-// shows
-// that it falls short by itself. An alternating path from 2 to 3 does without blossoms, as the Rust tests show by such a search.
+// shows that it falls short by itself. An alternating path from 2 to 3 does without blossoms, as the Rust tests show by such a search.
 fn enlarged_matching() {
     let ends = [2u16, 1, 2, 1, 2, 0, 3, 1];
     let mut table = [0u16; 4];
@@ -49,8 +50,8 @@ fn enlarged_matching() {
 }
 
 // The start finds two of three pairs. The requests are compatible along 0, 1, 3, 5, 2 and 0, a cycle of five, with 4 beside 3; from the
-// start on,
-// no search finds the third pair that gives each request only one label, in whatever order: the Rust tests try orders of such a search.
+// start on, no search finds the third pair that gives each request only one label, in whatever order: the Rust tests try orders of such
+// a search.
 fn odd_cycle() {
     let ends = [0u16, 4, 11, 8, 9, 5, 6, 2, 7, 3, 10, 1];
     let mut table = [0u16; 6];
@@ -67,7 +68,15 @@ fn shared_end() {
     show_check(4, 1, &ends, &table);
 }
 
-// The seam way of {2,5} uses links 5 to 7 and links 0 and 1, and all of them are free again once it is removed.
+// Order 1 is confirmed already, order 2 is live, and there was never an order 3.
+fn confirmations_refused(book: Book) {
+    let first = show_confirmation(book, 1);
+    let second = show_confirmation(first, 2);
+    show_confirmation(second, 3);
+}
+
+// The seam way of {2,5} uses links 5 to 7 and links 0 and 1. Its removal frees none of them, and they are all free again once its pull
+// is confirmed.
 fn seam_removal() {
     let opened = open(8, 1);
     let book = opened.book;
@@ -76,11 +85,17 @@ fn seam_removal() {
     show_holder(held, 2);
     show_holder(held, 7);
     let refused = show_grant(held, 0, 2, 0);
-    let freed = show_removal(refused, 1);
+    let pending = show_removal(refused, 1);
+    show_holder(pending, 1);
+    show_holder(pending, 7);
+    let still = show_grant(pending, 0, 2, 0);
+    let twice = show_removal(still, 1);
+    let freed = show_confirmation(twice, 1);
     show_holder(freed, 1);
     show_holder(freed, 7);
     let again = show_grant(freed, 0, 2, 0);
     show_holder(again, 1);
+    confirmations_refused(again);
 }
 
 fn main() {
@@ -97,6 +112,6 @@ fn main() {
     odd_cycle();
     write(b"chords that share an end\n");
     shared_end();
-    write(b"the links of a removed seam way\n");
+    write(b"the links of a seam way removed and confirmed\n");
     seam_removal();
 }

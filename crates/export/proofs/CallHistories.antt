@@ -4,7 +4,6 @@ use mathlib.Core.Path.{_≡_, refl, sym, _∙_, ap, subst}
 use mathlib.Core.Bool.{Bool, true, false, cond}
 use mathlib.Core.List.{List, [], _∷_}
 use native.Mathlib.Omega.{arith}
-use lib.Dec.{eqb}
 use Rattle.ring.specs.declared.refusals.Verdict.{Verdict}
 use Rattle.ring.specs.declared.refusals.Verdict.the-variants as verdict
 use Rattle.ring.specs.Answers.{refuses}
@@ -12,27 +11,26 @@ use Rattle.ring.specs.Admission.{ringVerdict}
 use Rattle.texts.proofs.GroundLaws.{line-of}
 use Rattle.book.specs.declared.books.Book.{Book}
 use Rattle.book.specs.declared.grants.Granted.{Granted}
-use Rattle.book.specs.declared.orders.Lookup.{Lookup}
-use Rattle.book.specs.declared.orders.Lookup.the-variants.{Found, Missing}
-use Rattle.book.specs.declared.removals.Removed.{Removed}
 use Rattle.book.specs.Books.{Valid, bookOf, openUnless, opened, openInNumbers}
 use Rattle.book.specs.Grants.{circuitOf, grantVerdict, grantUnless, granted, grantInNumbers}
-use Rattle.book.specs.Orders.{lookup, missing, shown, showInNumbers}
+use Rattle.book.specs.Orders.{shown, showInNumbers}
 use Rattle.book.specs.Previews.{previewedAll, previewInNumbers}
-use Rattle.book.specs.Removals.{removeFound, removed, removeInNumbers}
+use Rattle.book.specs.Removals.{removed, removeInNumbers}
+use Rattle.book.specs.Confirmations.{confirmed, confirmInNumbers}
 use Rattle.book.specs.Holders.{heldBy, holderInNumbers}
-use Rattle.book.specs.History.{Call, Grant, Remove, Show, Holder, after, run}
+use Rattle.book.specs.History.{Call, Grant, Remove, Confirm, Show, Holder, after, run}
 use Rattle.book.proofs.Opening.{opened-valid}
-use Rattle.book.proofs.Validity.{keeps-valid}
+use Rattle.book.proofs.Outcomes.{removal-cases, confirmation-cases}
+use Rattle.book.proofs.Validity.{removal-valid, confirmation-valid, keeps-valid}
 use Rattle.book.proofs.EveryHistory.{every-history}
 use Rattle.stored.specs.declared.loads.Loaded.{Loaded}
 use Rattle.stored.specs.Forms.{storedForm}
 use Rattle.stored.proofs.Promised.{loads-only-forms}
 use Rattle.export.specs.Outcomes.{Outcome}
-use Rattle.export.specs.BookCalls.{front, refusing, storing, changing, grantOn, removeOn, openCall, grantCall, removeCall, showCall}
-use Rattle.export.specs.BookCalls.{holderCall, linesOfEntries, previewCall}
-use Rattle.export.specs.Histories.{Kept, keptBy, answerOf, keptAfter, keptRun, withRoom, openedIn, CallHistories}
-use Rattle.export.proofs.Keeping.{Holds, held-valid, changed-held, asked-held, bookAfter, Stores, no-room, whole, stores}
+use Rattle.export.specs.BookCalls.{front, refusing, storing, changing, grantOn, removeOn, confirmOn, openCall, grantCall}
+use Rattle.export.specs.BookCalls.{removeCall, confirmCall, showCall, holderCall, linesOfEntries, previewCall}
+use Rattle.export.specs.Histories.{Kept, keptBy, answerOf, keptAfter, keptRun, unstored, storedCalls, openedIn, CallHistories}
+use Rattle.export.proofs.Keeping.{Holds, held-valid, changed-held, asked-held, bookAfter, Stores, pending, no-room, whole, stores}
 use Rattle.export.proofs.Keeping.{whole-holds, storing-holds, refusing-holds}
 use Rattle.export.proofs.OutcomeLaws.{on-refusal}
 
@@ -54,21 +52,23 @@ module _ (kept : Kept) (b : Book) (h : Holds kept b) where
 
   remove-on-holds : (serial : ℕ) → let o = removeOn b serial (kept .buffer) in
       Holds (keptBy kept 0 o) (bookAfter o b (removed b serial .book))
-  unfolding removed
-  remove-on-holds serial = go (lookup b serial) (keeps-valid .removing b (held-valid kept b h) serial)
-    where
-      made : Lookup → Removed
-      made l = removeFound l (missing b serial) b
+  remove-on-holds serial =
+      removal-cases b serial
+      (λ d. let o = changing (removeInNumbers (d .answer)) (d .book) (kept .buffer) in Holds (keptBy kept 0 o) (bookAfter o b (d .book)))
+      (λ i l named live. storing-holds kept b h [] 0 _ (removal-valid b (held-valid kept b h) i l) refl)
+      (λ r. refusing-holds kept b h 0 r _ b refl)
 
-      go : (l : Lookup) → Valid (made l .book)
-          → let o = changing (removeInNumbers (made l .answer)) (made l .book) (kept .buffer) in
-          Holds (keptBy kept 0 o) (bookAfter o b (made l .book))
-      go (Found i c) valid = storing-holds kept b h [] 0 (made (Found i c) .book) valid refl
-      go Missing valid = refusing-holds kept b h 0 (missing b serial) _ b refl
+  confirm-on-holds : (serial : ℕ) → let o = confirmOn b serial (kept .buffer) in
+      Holds (keptBy kept 0 o) (bookAfter o b (confirmed b serial .book))
+  confirm-on-holds serial =
+      confirmation-cases b serial
+      (λ d. let o = changing (confirmInNumbers (d .answer)) (d .book) (kept .buffer) in Holds (keptBy kept 0 o) (bookAfter o b (d .book)))
+      (λ i l named pending. storing-holds kept b h [] 0 _ (confirmation-valid b (held-valid kept b h) i l) refl)
+      (λ r. refusing-holds kept b h 0 r _ b refl)
 
   -- the book after one call
-  step : (call : Call) → Holds (keptAfter kept call) (cond (eqb (answerOf kept call .number) 17) b (after b call))
-  unfolding grantCall removeCall
+  step : (call : Call) → Holds (keptAfter kept call) (cond (unstored (answerOf kept call)) b (after b call))
+  unfolding grantCall removeCall confirmCall
   step (Grant x y way colour) =
       subst (λ (o : Outcome). Holds (keptBy kept 1 o) (bookAfter o b (granted b x y way colour .book)))
       (sym (changed-held kept b h (λ (d : Book). grantOn d x y way colour (kept .buffer))))
@@ -77,12 +77,16 @@ module _ (kept : Kept) (b : Book) (h : Holds kept b) where
       subst (λ (o : Outcome). Holds (keptBy kept 0 o) (bookAfter o b (removed b serial .book)))
       (sym (changed-held kept b h (λ (d : Book). removeOn d serial (kept .buffer))))
       (remove-on-holds serial)
-  step (Show serial) = same (eqb (answerOf kept (Show serial) .number) 17)
+  step (Confirm serial) =
+      subst (λ (o : Outcome). Holds (keptBy kept 0 o) (bookAfter o b (confirmed b serial .book)))
+      (sym (changed-held kept b h (λ (d : Book). confirmOn d serial (kept .buffer))))
+      (confirm-on-holds serial)
+  step (Show serial) = same (unstored (answerOf kept (Show serial)))
     where
       same : (t : Bool) → Holds kept (cond t b b)
       same true = h
       same false = h
-  step (Holder link colour) = same (eqb (answerOf kept (Holder link colour) .number) 17)
+  step (Holder link colour) = same (unstored (answerOf kept (Holder link colour)))
     where
       same : (t : Bool) → Holds kept (cond t b b)
       same true = h
@@ -94,11 +98,11 @@ run-one : (b : Book) (calls : List Call) (call : Call) (t : Bool)
 run-one b calls call true = refl
 run-one b calls call false = refl
 
-pub run-holds : (kept : Kept) (b : Book) → Holds kept b → (calls : List Call) → Holds (keptRun kept calls) (run b (withRoom kept calls))
+pub run-holds : (kept : Kept) (b : Book) → Holds kept b → (calls : List Call) → Holds (keptRun kept calls) (run b (storedCalls kept calls))
 run-holds kept b h [] = h
 run-holds kept b h (call ∷ calls) =
-    subst (Holds (keptRun kept (call ∷ calls))) (run-one b (withRoom kept calls) call (eqb (answerOf (keptRun kept calls) call .number) 17))
-    (step (keptRun kept calls) (run b (withRoom kept calls)) (run-holds kept b h calls) call)
+    subst (Holds (keptRun kept (call ∷ calls))) (run-one b (storedCalls kept calls) call (unstored (answerOf (keptRun kept calls) call)))
+    (step (keptRun kept calls) (run b (storedCalls kept calls)) (run-holds kept b h calls) call)
 
 -- an accepted opening
 pub record OpensBook (n w : ℕ) (buffer : List ℕ) : Type 0 where
@@ -115,20 +119,21 @@ opens-book n w buffer = go (ringVerdict n w) refl
       where
         first : Stores [] (bookOf n w 0 []) buffer → storing [] (bookOf n w 0 []) buffer .answer .number ≡ 0
             → Holds (keptBy (record { buffer = buffer; size = 0 }) 0 (storing [] (bookOf n w 0 []) buffer)) (bookOf n w 0 [])
+        first (pending s) accepted = absurd (omega (arith, ap (λ (o : Outcome). o .answer .number) s))
         first (no-room s) accepted = absurd (omega (arith, ap (λ (o : Outcome). o .answer .number) s))
-        first (whole s) accepted =
+        first (whole live s) accepted =
             subst (λ (o : Outcome). Holds (keptBy (record { buffer = buffer; size = 0 }) 0 o) (bookOf n w 0 [])) (sym s)
-            (whole-holds [] 0 (bookOf n w 0 []) (record { buffer = buffer; size = 0 }) (opened-valid n w e) refl)
+            (whole-holds [] 0 (bookOf n w 0 []) (record { buffer = buffer; size = 0 }) (opened-valid n w e) live refl)
     go (verdict.Refused r) e accepted =
         let o = on-refusal r (storing (refuses r .values) (bookOf 0 0 0 []) buffer) (refusing (refuses r) buffer) in
         absurd (omega (arith, line-of r refl .0, ap (λ (o : Outcome). o .answer .number) o))
 
 pub call-histories : CallHistories
-unfolding grantCall removeCall showCall holderCall previewCall
+unfolding grantCall removeCall confirmCall showCall holderCall previewCall
 call-histories n w buffer accepted calls =
     let opens = opens-book n w buffer accepted in
     let kept = keptRun (openedIn n w buffer) calls in
-    let b = run (opened n w .book) (withRoom (openedIn n w buffer) calls) in
+    let b = run (opened n w .book) (storedCalls (openedIn n w buffer) calls) in
     let held : Holds kept b = run-holds (openedIn n w buffer) (opened n w .book) (opens .holds) calls in
     record {
       stored = record {
@@ -136,11 +141,13 @@ call-histories n w buffer accepted calls =
             loads-only-forms (front (kept .size) (kept .buffer)) (ap (λ (l : Loaded). l .answer) held) .form
             ∙ ap (λ (l : Loaded). storedForm (l .book)) held;
         loads = held;
-        after = every-history n w (opens .allowed) (withRoom (openedIn n w buffer) calls);
+        after = every-history n w (opens .allowed) (storedCalls (openedIn n w buffer) calls);
       };
       grants = λ x y way colour.
           ap (λ (o : Outcome). o .answer) (changed-held kept b held (λ (d : Book). grantOn d x y way colour (kept .buffer)));
       removals = λ serial. ap (λ (o : Outcome). o .answer) (changed-held kept b held (λ (d : Book). removeOn d serial (kept .buffer)));
+      confirmations = λ serial.
+          ap (λ (o : Outcome). o .answer) (changed-held kept b held (λ (d : Book). confirmOn d serial (kept .buffer)));
       shows = λ serial. asked-held kept b held (λ (d : Book). showInNumbers (shown d serial));
       holders = λ link colour. asked-held kept b held (λ (d : Book). holderInNumbers (heldBy d link colour));
       previews = λ entries. asked-held kept b held (λ (d : Book). previewInNumbers (previewedAll d (linesOfEntries entries)));

@@ -1,5 +1,5 @@
--- A refused change leaves the buffer; a length past it is refused; a change leaves the changed book in it, or 17 and the book that was
--- there.
+-- A refused change leaves the buffer; a length past it is refused; a change leaves the changed book in it, or 17 or 25 and the book that
+-- was there.
 use Prim.Native.Nat.{ℕ, _≤_}
 use mathlib.Core.Path.{_≡_, refl, sym, _∙_, ap, subst}
 use mathlib.Core.Bool.{Bool, true, false, cond}
@@ -9,25 +9,25 @@ use lib.Dec.{eqb, ltb}
 use lib.ListN.{length, drop, getD, length-append}
 use lib.Seq.{take-at}
 use Rattle.ring.specs.declared.refusals.Refusal.{Refusal}
-use Rattle.ring.specs.declared.refusals.Refusal.the-variants.{BufferShort}
+use Rattle.ring.specs.declared.refusals.Refusal.the-variants.{BufferShort, PendingRecord}
 use Rattle.ring.specs.Answers.{InNumbers, gives, refuses}
-use Rattle.ring.specs.Refusals.{numberOf}
 use Rattle.book.specs.declared.books.Book.{Book}
-use Rattle.book.specs.Books.{Valid, opened, openInNumbers}
+use Rattle.book.specs.Books.{hasPending, Valid, opened, openInNumbers}
 use Rattle.book.specs.Grants.{granted, grantInNumbers}
 use Rattle.book.specs.Removals.{removed, removeInNumbers}
+use Rattle.book.specs.Confirmations.{confirmed, confirmInNumbers}
 use Rattle.stored.specs.declared.loads.LoadAnswer.the-variants as load
 use Rattle.stored.specs.declared.loads.Loaded.{Loaded}
 use Rattle.stored.specs.Forms.{storedForm}
-use Rattle.stored.specs.Storing.{lengthOf, storeAnswer, afterStore, storeInNumbers}
+use Rattle.stored.specs.Storing.{lengthOf, formAnswer, afterForm, storeAnswer, afterStore, storeInNumbers}
 use Rattle.stored.specs.Loading.{lengthWrong, loaded, loadInNumbers}
-use Rattle.stored.proofs.StoreLaws.{form-length}
+use Rattle.stored.proofs.StoreLaws.{form-length, store-pending}
 use Rattle.stored.proofs.LoadLaws.{load-length}
 use Rattle.stored.proofs.Promised.{reads-back}
 use Rattle.export.specs.Outcomes.{Outcome, onSuccess}
-use Rattle.export.specs.BookCalls.{front, refusing, storing, changing, grantOn, removeOn, loadedThen, askedOf, openCall, grantCall}
-use Rattle.export.specs.BookCalls.{removeCall}
-use Rattle.export.specs.Histories.{RefusedLeaves, LengthPast, Kept, keptBy}
+use Rattle.export.specs.BookCalls.{front, refusing, storing, changing, grantOn, removeOn, confirmOn, loadedThen, askedOf, openCall}
+use Rattle.export.specs.BookCalls.{grantCall, removeCall, confirmCall}
+use Rattle.export.specs.Histories.{RefusedLeaves, LengthPast, Kept, keptBy, unstored}
 use Rattle.export.proofs.OutcomeLaws.{front-short, front-whole, on-refusal, loaded-valid}
 
 -- an outcome that is no success has left the buffer
@@ -55,7 +55,7 @@ leaves-loaded buffer size f h =
     leaves-step (loadInNumbers (l .answer)) buffer (f (l .book)) (h (l .book))
 
 pub refused-leaves : RefusedLeaves
-unfolding openCall grantCall removeCall
+unfolding openCall grantCall removeCall confirmCall
 refused-leaves = record {
   opening = λ n w buffer. leaves-changing (openInNumbers (opened n w .answer)) (opened n w .book) buffer;
   granting =
@@ -66,6 +66,10 @@ refused-leaves = record {
       λ buffer size serial.
       leaves-loaded buffer size (λ (b : Book). removeOn b serial buffer)
       (λ b. leaves-changing (removeInNumbers (removed b serial .answer)) (removed b serial .book) buffer);
+  confirming =
+      λ buffer size serial.
+      leaves-loaded buffer size (λ (b : Book). confirmOn b serial buffer)
+      (λ b. leaves-changing (confirmInNumbers (confirmed b serial .answer)) (confirmed b serial .book) buffer);
 }
 
 pub length-past : LengthPast
@@ -95,34 +99,42 @@ front-form b rest =
     let h : lengthOf b ≤ length (storedForm b ++ rest) = omega (arith, length-append (storedForm b) rest, form-length b) in
     sym (front-whole (lengthOf b) (storedForm b ++ rest) h) ∙ take-at (storedForm b) rest (lengthOf b) (form-length b)
 
--- the book after a call: 17 leaves the one that was there
+-- the book after a call: one that is not stored leaves the book that was there
 abbrev pub bookAfter : Outcome → Book → Book → Book
-bookAfter o b d = cond (eqb (o .answer .number) 17) b d
+bookAfter o b d = cond (unstored (o .answer)) b d
 
--- a book is stored whole, or there is no room for it
+-- a book with a pending record is not stored
+pub pending-refused : (values : List ℕ) (d : Book) (buffer : List ℕ) → hasPending d ≡ true
+    → storing values d buffer ≡ refusing (refuses PendingRecord) buffer
+pending-refused values d buffer e = rw (sym (store-pending d buffer e .0)) refl
+
+-- a book has a pending record, or there is no room for it, or it is stored whole
 pub data Stores (values : List ℕ) (d : Book) (buffer : List ℕ) : Type 0 where
+  pending : storing values d buffer ≡ refusing (refuses PendingRecord) buffer → Stores values d buffer
   no-room : storing values d buffer ≡ refusing (refuses BufferShort) buffer → Stores values d buffer
-  whole : storing values d buffer
+  whole : hasPending d ≡ false → storing values d buffer
       ≡ record { answer = gives (values ++ (lengthOf d ∷ [])); buffer = storedForm d ++ drop (lengthOf d) buffer } → Stores values d buffer
 
 pub stores : (values : List ℕ) (d : Book) (buffer : List ℕ) → Stores values d buffer
-unfolding storeAnswer afterStore
-stores values d buffer = go (ltb (length buffer) (lengthOf d)) refl
+unfolding storeAnswer afterStore formAnswer afterForm
+stores values d buffer = go (hasPending d) refl (ltb (length buffer) (lengthOf d)) refl
   where
-    go : (t : Bool) → ltb (length buffer) (lengthOf d) ≡ t → Stores values d buffer
-    go true e = no-room (rw e refl)
-    go false e = whole (rw e refl)
+    go : (t : Bool) → hasPending d ≡ t → (short : Bool) → ltb (length buffer) (lengthOf d) ≡ short → Stores values d buffer
+    go true p short e = pending (pending-refused values d buffer p)
+    go false p true e = no-room (rw (p, e) refl)
+    go false p false e = whole p (rw (p, e) refl)
 
 -- a stored book is held
-pub whole-holds : (values : List ℕ) (entry : ℕ) (d : Book) (kept : Kept) → Valid d → getD (values ++ (lengthOf d ∷ [])) entry 0 ≡ lengthOf d
+pub whole-holds : (values : List ℕ) (entry : ℕ) (d : Book) (kept : Kept) → Valid d → hasPending d ≡ false
+    → getD (values ++ (lengthOf d ∷ [])) entry 0 ≡ lengthOf d
     → Holds (keptBy kept entry
     (record { answer = gives (values ++ (lengthOf d ∷ [])); buffer = storedForm d ++ drop (lengthOf d) (kept .buffer) })) d
-whole-holds values entry d kept v length-there =
+whole-holds values entry d kept v live length-there =
     ap (λ (size : ℕ). loaded (front size (storedForm d ++ drop (lengthOf d) (kept .buffer)))) length-there
     ∙ ap loaded (front-form d (drop (lengthOf d) (kept .buffer)))
-    ∙ reads-back d v
+    ∙ reads-back d v live
 
--- a change that is stored, or for which there is no room
+-- a change that is stored, or for which the stored form or the buffer has no room
 pub storing-holds : (kept : Kept) (b : Book) → Holds kept b → (values : List ℕ) (entry : ℕ) (d : Book) → Valid d
     → getD (values ++ (lengthOf d ∷ [])) entry 0 ≡ lengthOf d
     → Holds (keptBy kept entry (storing values d (kept .buffer))) (bookAfter (storing values d (kept .buffer)) b d)
@@ -132,8 +144,9 @@ storing-holds kept b h values entry d v length-there = go (stores values d (kept
     Held o = Holds (keptBy kept entry o) (bookAfter o b d)
 
     go : Stores values d (kept .buffer) → Held (storing values d (kept .buffer))
+    go (pending e) = subst Held (sym e) h
     go (no-room e) = subst Held (sym e) h
-    go (whole e) = subst Held (sym e) (whole-holds values entry d kept v length-there)
+    go (whole live e) = subst Held (sym e) (whole-holds values entry d kept v live length-there)
 
 -- a change that is refused, which leaves the book
 pub refusing-holds : (kept : Kept) (b : Book) → Holds kept b → (entry : ℕ) (r : Refusal) (next : Outcome) (d : Book) → d ≡ b
@@ -143,7 +156,7 @@ refusing-holds kept b h entry r next d e =
     (subst (λ (k : ℕ). loaded (front k (kept .buffer))
     ≡ record { answer = load.Loaded; book = bookAfter (refusing (refuses r) (kept .buffer)) b d })
     (sym (on-refusal r _ (kept .size)))
-    (h ∙ ap (λ (x : Book). record { answer = load.Loaded; book = x }) (sym (either (eqb (numberOf r) 17)))))
+    (h ∙ ap (λ (x : Book). record { answer = load.Loaded; book = x }) (sym (either (unstored (refuses r))))))
   where
     either : (t : Bool) → cond t b d ≡ b
     either true = refl

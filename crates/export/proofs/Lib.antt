@@ -1,7 +1,7 @@
 -- The laws that the functions' proofs cite, and the theorems whose statements stand in specs/: Keeping (RefusedLeaves, LengthPast),
--- CallHistories, Room (RemovalFits).
+-- CallHistories, Waiting (StoredWait).
 pub mod OutcomeLaws
 pub mod EntryLaws
 pub mod Keeping
 pub mod CallHistories
-pub mod Room
+pub mod Waiting

@@ -8,7 +8,7 @@ use lib.Dec.{eqb, ltb}
 use lib.ListN.{length, take, drop}
 use borrow.Author.Tests.{ne-eqb, lt-ltb, le-ltb}
 use Rattle.ring.specs.declared.refusals.Refusal.{Refusal}
-use Rattle.ring.specs.declared.refusals.Refusal.the-variants.{BufferShort}
+use Rattle.ring.specs.declared.refusals.Refusal.the-variants.{BufferShort, PendingRecord}
 use Rattle.ring.specs.Answers.{InNumbers, gives, refuses}
 use Rattle.ring.specs.Refusals.{numberOf}
 use Rattle.texts.proofs.GroundLaws.{line-of}
@@ -22,20 +22,24 @@ use Rattle.book.specs.declared.grants.Granted.{Granted}
 use Rattle.book.specs.declared.removals.RemoveAnswer.{RemoveAnswer}
 use Rattle.book.specs.declared.removals.RemoveAnswer.the-variants as remove
 use Rattle.book.specs.declared.removals.Removed.{Removed}
-use Rattle.book.specs.Books.{Valid, opened, openInNumbers}
+use Rattle.book.specs.declared.confirmations.ConfirmAnswer.{ConfirmAnswer}
+use Rattle.book.specs.declared.confirmations.ConfirmAnswer.the-variants as confirm
+use Rattle.book.specs.declared.confirmations.Confirmed.{Confirmed}
+use Rattle.book.specs.Books.{hasPending, Valid, opened, openInNumbers}
 use Rattle.book.specs.Grants.{granted, grantInNumbers}
 use Rattle.book.specs.Removals.{removed, removeInNumbers}
+use Rattle.book.specs.Confirmations.{confirmed, confirmInNumbers}
 use Rattle.stored.specs.declared.stores.StoreAnswer.{StoreAnswer}
 use Rattle.stored.specs.declared.stores.StoreAnswer.the-variants as store
 use Rattle.stored.specs.declared.loads.LoadAnswer.{LoadAnswer}
 use Rattle.stored.specs.declared.loads.LoadAnswer.the-variants as load
 use Rattle.stored.specs.declared.loads.Loaded.{Loaded}
 use Rattle.stored.specs.Forms.{storedForm}
-use Rattle.stored.specs.Storing.{lengthOf, storeAnswer, afterStore, storeInNumbers}
+use Rattle.stored.specs.Storing.{lengthOf, formAnswer, afterForm, storeAnswer, afterStore, storeInNumbers}
 use Rattle.stored.specs.Loading.{loaded, loadInNumbers}
 use Rattle.stored.proofs.Promised.{loads-only-forms}
 use Rattle.export.specs.Outcomes.{Outcome, putFrom, Answered, Changed, onSuccess}
-use Rattle.export.specs.BookCalls.{front, refusing, storing, changing, grantOn, removeOn, loadedThen, askedOf, openCall}
+use Rattle.export.specs.BookCalls.{front, refusing, storing, changing, grantOn, removeOn, confirmOn, loadedThen, askedOf, openCall}
 
 -- no refusal has the number of success
 pub refusal-number : (r : Refusal) → eqb (numberOf r) 0 ≡ false
@@ -79,6 +83,11 @@ pub by-remove : (b : Book) (serial : ℕ) (buffer : List ℕ) {r : Removed} {a :
 by-remove b serial buffer =
     by-answer (λ (r : Removed). r .answer) (λ (a : RemoveAnswer) (r : Removed). changing (removeInNumbers a) (r .book) buffer)
 
+pub by-confirm : (b : Book) (serial : ℕ) (buffer : List ℕ) {r : Confirmed} {a : ConfirmAnswer} → r ≡ confirmed b serial → r .answer ≡ a
+    → changing (confirmInNumbers a) (r .book) buffer ≡ confirmOn b serial buffer
+by-confirm b serial buffer =
+    by-answer (λ (r : Confirmed). r .answer) (λ (a : ConfirmAnswer) (r : Confirmed). changing (confirmInNumbers a) (r .book) buffer)
+
 pub by-load : (buffer : List ℕ) (size : ℕ) (f : Book → Outcome) {l : Loaded} {a : LoadAnswer} → l ≡ loaded (front size buffer)
     → l .answer ≡ a
     → onSuccess (loadInNumbers a) (f (l .book)) (refusing (loadInNumbers a) buffer) ≡ loadedThen buffer size f
@@ -109,6 +118,12 @@ module _ (r : Refusal) where
   remove-refused b serial buffer {d} e f =
       sym (on-refusal r (storing (refuses r .values) (d .book) buffer) (refusing (refuses r) buffer)) ∙ by-remove b serial buffer e f
 
+  pub confirm-refused : (b : Book) (serial : ℕ) (buffer : List ℕ) {d : Confirmed} → d ≡ confirmed b serial
+      → d .answer ≡ confirm.Refused r
+      → refusing (refuses r) buffer ≡ confirmOn b serial buffer
+  confirm-refused b serial buffer {d} e f =
+      sym (on-refusal r (storing (refuses r .values) (d .book) buffer) (refusing (refuses r) buffer)) ∙ by-confirm b serial buffer e f
+
   pub load-refused : (buffer : List ℕ) (size : ℕ) (f : Book → Outcome) {l : Loaded} → l ≡ loaded (front size buffer)
       → l .answer ≡ load.Refused r
       → refusing (refuses r) buffer ≡ loadedThen buffer size f
@@ -133,13 +148,18 @@ module _ (size : ℕ) (buffer : List ℕ) where
 
 -- a store that is refused has written nothing
 pub short-kept : (b : Book) (buffer : List ℕ) (r : Refusal) → storeAnswer b buffer ≡ store.Refused r → afterStore b buffer ≡ buffer
-unfolding storeAnswer afterStore
-short-kept b buffer r = go (ltb (length buffer) (lengthOf b))
+unfolding storeAnswer afterStore formAnswer afterForm
+short-kept b buffer r = go (hasPending b)
   where
-    go : (t : Bool) → cond t (store.Refused BufferShort) (store.Stored (lengthOf b)) ≡ store.Refused r
+    form : (t : Bool) → cond t (store.Refused BufferShort) (store.Stored (lengthOf b)) ≡ store.Refused r
         → cond t buffer (storedForm b ++ drop (lengthOf b) buffer) ≡ buffer
+    form true e = refl
+    form false e = let z : _≡_ {A = ℕ} 0 1 = cc in absurd (omega arith)
+
+    go : (t : Bool) → cond t (store.Refused PendingRecord) (formAnswer b buffer) ≡ store.Refused r
+        → cond t buffer (afterForm b buffer) ≡ buffer
     go true e = refl
-    go false e = let z : _≡_ {A = ℕ} 0 1 = cc in absurd (omega arith)
+    go false e = form (ltb (length buffer) (lengthOf b)) e
 
 -- the outcome of a call that stores a book
 module _ (values : List ℕ) (b : Book) (buffer : List ℕ) {buffer-after : List ℕ} {answer : StoreAnswer}

@@ -11,6 +11,7 @@ use Rattle.book.specs.Books.{opened, openInNumbers}
 use Rattle.book.specs.Grants.{granted, grantInNumbers}
 use Rattle.book.specs.Previews.{previewedAll, previewInNumbers}
 use Rattle.book.specs.Removals.{removed, removeInNumbers}
+use Rattle.book.specs.Confirmations.{confirmed, confirmInNumbers}
 use Rattle.book.specs.Orders.{shown, showInNumbers}
 use Rattle.book.specs.Holders.{heldBy, holderInNumbers}
 use Rattle.stored.specs.Storing.{storeAnswer, afterStore, storeInNumbers}
@@ -25,7 +26,7 @@ front size buffer = take (cond (ltb (length buffer) size) 0 size) buffer
 abbrev pub refusing : InNumbers → List ℕ → Outcome
 refusing answer buffer = record { answer = answer; buffer = buffer }
 
--- the book is stored: these values, and the length of the stored form behind them; or 17
+-- the book is stored: these values, and the length of the stored form behind them; or 25 or 17
 abbrev pub storing : List ℕ → Book → List ℕ → Outcome
 storing values b buffer =
     onSuccess (storeInNumbers (storeAnswer b buffer))
@@ -40,9 +41,13 @@ changing answer b buffer = onSuccess answer (storing (answer .values) b buffer) 
 abbrev pub grantOn : Book → ℕ → ℕ → ℕ → ℕ → List ℕ → Outcome
 grantOn b x y way colour buffer = changing (grantInNumbers (granted b x y way colour .answer)) (granted b x y way colour .book) buffer
 
--- a removal on a book
+-- a removal on a book; the record that it leaves pending has no stored form
 abbrev pub removeOn : Book → ℕ → List ℕ → Outcome
 removeOn b serial buffer = changing (removeInNumbers (removed b serial .answer)) (removed b serial .book) buffer
+
+-- a confirmation on a book
+abbrev pub confirmOn : Book → ℕ → List ℕ → Outcome
+confirmOn b serial buffer = changing (confirmInNumbers (confirmed b serial .answer)) (confirmed b serial .book) buffer
 
 -- 18, 19 or 20, or a change of the book that was loaded from the first `size` bytes
 abbrev pub loadedThen : List ℕ → ℕ → (Book → Outcome) → Outcome
@@ -62,6 +67,10 @@ grantCall buffer size x y way colour = loadedThen buffer size (λ (b : Book). gr
 -- load, remove, store: the length
 unfoldable pub removeCall : List ℕ → ℕ → ℕ → Outcome
 removeCall buffer size serial = loadedThen buffer size (λ (b : Book). removeOn b serial buffer)
+
+-- load, confirm, store: the length
+unfoldable pub confirmCall : List ℕ → ℕ → ℕ → Outcome
+confirmCall buffer size serial = loadedThen buffer size (λ (b : Book). confirmOn b serial buffer)
 
 -- 18, 19 or 20, or the answer to a question to the book that was loaded
 abbrev pub askedOf : List ℕ → (Book → InNumbers) → InNumbers

@@ -1,24 +1,28 @@
 -- What the calls on a book promise together: the book in the buffer goes through the book's own histories.
 use Prim.Native.Nat.{ℕ, _<_}
 use mathlib.Core.Path.{_≡_}
-use mathlib.Core.Bool.{cond}
+use mathlib.Core.Bool.{Bool, cond, _||_}
 use mathlib.Core.List.{List, [], _∷_}
 use lib.Dec.{eqb}
 use lib.ListN.{length, getD}
-use Rattle.ring.specs.Answers.{InNumbers}
-use Rattle.ring.specs.declared.refusals.Refusal.the-variants.{StoredLength}
+use Rattle.ring.specs.Answers.{InNumbers, refuses}
+use Rattle.ring.specs.declared.refusals.Refusal.the-variants.{StoredLength, PendingRecord}
 use Rattle.book.specs.declared.books.Book.{Book}
+use Rattle.book.specs.declared.removals.RemoveAnswer.the-variants as remove
+use Rattle.book.specs.declared.confirmations.ConfirmAnswer.the-variants as confirm
 use Rattle.book.specs.Books.{opened}
 use Rattle.book.specs.Orders.{shown, showInNumbers}
 use Rattle.book.specs.Previews.{previewedAll, previewInNumbers}
 use Rattle.book.specs.Holders.{heldBy, holderInNumbers}
-use Rattle.book.specs.History.{Call, Grant, Remove, Show, Holder, run}
+use Rattle.book.specs.Removals.{removed}
+use Rattle.book.specs.Confirmations.{confirmed}
+use Rattle.book.specs.History.{Call, Grant, Remove, Confirm, Show, Holder, run}
 use Rattle.stored.specs.declared.loads.LoadAnswer.the-variants as load
 use Rattle.stored.specs.Loading.{loaded}
 use Rattle.stored.specs.Histories.{StoredAfter}
 use Rattle.export.specs.Outcomes.{Outcome, onSuccess}
-use Rattle.export.specs.BookCalls.{front, grantOn, removeOn, openCall, grantCall, removeCall, showCall, holderCall}
-use Rattle.export.specs.BookCalls.{linesOfEntries, previewCall}
+use Rattle.export.specs.BookCalls.{front, refusing, grantOn, removeOn, confirmOn, openCall, grantCall, removeCall, confirmCall}
+use Rattle.export.specs.BookCalls.{showCall, holderCall, linesOfEntries, previewCall}
 
 -- a change whose result is not 0 leaves the buffer as it is
 pub record RefusedLeaves : Type 0 where
@@ -27,6 +31,8 @@ pub record RefusedLeaves : Type 0 where
       → grantCall buffer size x y way colour .buffer ≡ buffer
   pub removing : (buffer : List ℕ) (size serial : ℕ) → (removeCall buffer size serial .answer .number ≡ 0 → ⊥)
       → removeCall buffer size serial .buffer ≡ buffer
+  pub confirming : (buffer : List ℕ) (size serial : ℕ) → (confirmCall buffer size serial .answer .number ≡ 0 → ⊥)
+      → confirmCall buffer size serial .buffer ≡ buffer
 
 -- a length above the buffer's own is refused by 18
 abbrev pub LengthPast : Type 0
@@ -46,6 +52,7 @@ keptBy kept entry outcome =
 abbrev pub answerOf : Kept → Call → InNumbers
 answerOf kept (Grant x y way colour) = grantCall (kept .buffer) (kept .size) x y way colour .answer
 answerOf kept (Remove serial) = removeCall (kept .buffer) (kept .size) serial .answer
+answerOf kept (Confirm serial) = confirmCall (kept .buffer) (kept .size) serial .answer
 answerOf kept (Show serial) = showCall (front (kept .size) (kept .buffer)) serial
 answerOf kept (Holder link colour) = holderCall (front (kept .size) (kept .buffer)) link colour
 
@@ -53,6 +60,7 @@ answerOf kept (Holder link colour) = holderCall (front (kept .size) (kept .buffe
 abbrev pub keptAfter : Kept → Call → Kept
 keptAfter kept (Grant x y way colour) = keptBy kept 1 (grantCall (kept .buffer) (kept .size) x y way colour)
 keptAfter kept (Remove serial) = keptBy kept 0 (removeCall (kept .buffer) (kept .size) serial)
+keptAfter kept (Confirm serial) = keptBy kept 0 (confirmCall (kept .buffer) (kept .size) serial)
 keptAfter kept (Show serial) = kept
 keptAfter kept (Holder link colour) = kept
 
@@ -61,11 +69,15 @@ abbrev pub keptRun : Kept → List Call → Kept
 keptRun kept [] = kept
 keptRun kept (call ∷ calls) = keptAfter (keptRun kept calls) call
 
--- the calls of the list that were not refused by 17
-abbrev pub withRoom : Kept → List Call → List Call
-withRoom kept [] = []
-withRoom kept (call ∷ calls) =
-    cond (eqb (answerOf (keptRun kept calls) call .number) 17) (withRoom kept calls) (call ∷ withRoom kept calls)
+-- a call that the book accepted, and that store refused, by 17 or 25
+abbrev pub unstored : InNumbers → Bool
+unstored answer = eqb (answer .number) 17 || eqb (answer .number) 25
+
+-- the calls of the list without those
+abbrev pub storedCalls : Kept → List Call → List Call
+storedCalls kept [] = []
+storedCalls kept (call ∷ calls) =
+    cond (unstored (answerOf (keptRun kept calls) call)) (storedCalls kept calls) (call ∷ storedCalls kept calls)
 
 -- what an opening leaves in a buffer
 abbrev pub openedIn : ℕ → ℕ → List ℕ → Kept
@@ -77,19 +89,26 @@ pub record KeptAfter (n w : ℕ) (calls : List Call) (kept : Kept) : Type 0 wher
   pub grants : (x y way colour : ℕ)
       → answerOf kept (Grant x y way colour) ≡ grantOn (run (opened n w .book) calls) x y way colour (kept .buffer) .answer
   pub removals : (serial : ℕ) → answerOf kept (Remove serial) ≡ removeOn (run (opened n w .book) calls) serial (kept .buffer) .answer
+  pub confirmations : (serial : ℕ)
+      → answerOf kept (Confirm serial) ≡ confirmOn (run (opened n w .book) calls) serial (kept .buffer) .answer
   pub shows : (serial : ℕ) → answerOf kept (Show serial) ≡ showInNumbers (shown (run (opened n w .book) calls) serial)
   pub holders : (link colour : ℕ) → answerOf kept (Holder link colour) ≡ holderInNumbers (heldBy (run (opened n w .book) calls) link colour)
   pub previews : (entries : List ℕ)
       → previewCall (front (kept .size) (kept .buffer)) entries
       ≡ previewInNumbers (previewedAll (run (opened n w .book) calls) (linesOfEntries entries))
 
--- it is so after every list of calls from an accepted opening, those that 17 refused left out
+-- it is so after every list of calls from an accepted opening, those that 17 or 25 refused left out
 abbrev pub CallHistories : Type 0
 CallHistories = (n w : ℕ) (buffer : List ℕ) → openCall n w buffer .answer .number ≡ 0 → (calls : List Call)
-    → KeptAfter n w (withRoom (openedIn n w buffer) calls) (keptRun (openedIn n w buffer) calls)
+    → KeptAfter n w (storedCalls (openedIn n w buffer) calls) (keptRun (openedIn n w buffer) calls)
 
--- a removal needs no more room than the book had: 17 does not come
-abbrev pub RemovalFits : Type 0
-RemovalFits = (b : Book) (buffer : List ℕ) (size : ℕ) → loaded (front size buffer) ≡ record { answer = load.Loaded; book = b }
+-- a book that lies in its stored form has no pending record: a removal that it accepts is refused by 25, and it accepts no confirmation
+pub record PendingWaits (b : Book) (buffer : List ℕ) (size serial : ℕ) : Type 0 where
+  pub removal : removed b serial .answer ≡ remove.Removed → removeCall buffer size serial ≡ refusing (refuses PendingRecord) buffer
+  pub confirmation : confirmed b serial .answer ≡ confirm.Confirmed → ⊥
+
+-- of every book that loads
+abbrev pub StoredWait : Type 0
+StoredWait = (b : Book) (buffer : List ℕ) (size : ℕ) → loaded (front size buffer) ≡ record { answer = load.Loaded; book = b }
     → (serial : ℕ)
-    → removeCall buffer size serial .answer .number ≡ 17 → ⊥
+    → PendingWaits b buffer size serial

@@ -3,6 +3,8 @@ use super::values::put;
 use super::values::refused;
 use book::Book;
 use book::books::OpenAnswer;
+use book::confirm;
+use book::confirmations::ConfirmAnswer;
 use book::grant;
 use book::grants::GrantAnswer;
 use book::open;
@@ -18,9 +20,9 @@ ghost use mathlib.Core.List.{[], _∷_};
 ghost use Rattle.book.specs.Books.{Valid};
 ghost use Rattle.stored.specs.Loading.{loaded};
 ghost use Rattle.export.specs.Outcomes.{Changed};
-ghost use Rattle.export.specs.BookCalls.{front, storing, grantOn, removeOn, openCall, grantCall, removeCall};
+ghost use Rattle.export.specs.BookCalls.{front, storing, grantOn, removeOn, confirmOn, openCall, grantCall, removeCall, confirmCall};
 
-// Stores a book that was opened or has lost a circuit. Value: the length.
+// Stores a book that was opened, or in which an order was removed or confirmed. Value: the length.
 fn keep(book: Book, buffer: &mut [u8], values: &mut [u16]) -> u16
     ensures { λ r. ⌜ Changed (storing [] book (now (buffer .entry))) (now (buffer .exit)) (now (values .entry)) (now (values .exit)) r ⌝ }
 {
@@ -126,7 +128,7 @@ pub extern "C" fn tarziloen_book_grant(
     }
 }
 
-// Removes an order from a book, and stores it.
+// Removes an order from a book, and stores it: 25 where the book accepts, since the order's record is pending then.
 fn remove_in(book: Book, serial: u16, buffer: &mut [u8], values: &mut [u16]) -> u16
     ensures { λ r. ⌜ Changed (removeOn book serial (now (buffer .entry))) (now (buffer .exit)) (now (values .entry))
         (now (values .exit)) r ⌝ }
@@ -142,7 +144,8 @@ fn remove_in(book: Book, serial: u16, buffer: &mut [u8], values: &mut [u16]) -> 
     }
 }
 
-// Removes an order from the book in the first bytes of the buffer. Value: the length of the stored form.
+// Removes an order from the book in the first bytes of the buffer. Value: the length of the stored form. While that form has no room for
+// pending records, a removal that the book accepts is refused by 25, and the order stays live.
 #[no_mangle]
 pub extern "C" fn tarziloen_book_remove(
     buffer: &mut [u8],
@@ -159,6 +162,45 @@ pub extern "C" fn tarziloen_book_remove(
         LoadAnswer::Loaded => {
             let book = loaded.book;
             remove_in(book, serial, buffer, values)
+        }
+        LoadAnswer::Refused(refusal) => refused(refusal, values),
+    }
+}
+
+// Confirms the pull of a removed order in a book, and stores it.
+fn confirm_in(book: Book, serial: u16, buffer: &mut [u8], values: &mut [u16]) -> u16
+    ensures { λ r. ⌜ Changed (confirmOn book serial (now (buffer .entry))) (now (buffer .exit)) (now (values .entry))
+        (now (values .exit)) r ⌝ }
+{
+    let confirmed = confirm(book, serial);
+    let answer = confirmed.answer;
+    match answer {
+        ConfirmAnswer::Confirmed => {
+            let freed = confirmed.book;
+            keep(freed, buffer, values)
+        }
+        ConfirmAnswer::Refused(refusal) => refused(refusal, values),
+    }
+}
+
+// Confirms the pull of a removed order in the book in the first bytes of the buffer. Value: the length of the stored form. While that form
+// has no room for pending records, the book has none, and accepts no confirmation.
+#[no_mangle]
+pub extern "C" fn tarziloen_book_confirm(
+    buffer: &mut [u8],
+    length: usize,
+    serial: u16,
+    values: &mut [u16],
+) -> u16
+    ensures { λ r. ⌜ Changed (confirmCall (now (buffer .entry)) length serial) (now (buffer .exit)) (now (values .entry))
+        (now (values .exit)) r ⌝ }
+{
+    let loaded = load_front(buffer, length);
+    let answer = loaded.answer;
+    match answer {
+        LoadAnswer::Loaded => {
+            let book = loaded.book;
+            confirm_in(book, serial, buffer, values)
         }
         LoadAnswer::Refused(refusal) => refused(refusal, values),
     }

@@ -6,7 +6,8 @@ use Rattle.ring.specs.declared.refusals.Refusal.the-variants.{NodeCount,
 use Rattle.ring.specs.declared.refusals.Refusal.the-variants.{TableShort, FateNumber, Conflict, CircuitEnd, CircuitEndsEqual}
 use Rattle.ring.specs.declared.refusals.Refusal.the-variants.{WayNumber, ColourNumber, ColourHeld, BookFull, SerialsUsedUp}
 use Rattle.ring.specs.declared.refusals.Refusal.the-variants.{SerialNeverGiven, SerialRemoved, LinkNumber, BufferShort, StoredLength}
-use Rattle.ring.specs.declared.refusals.Refusal.the-variants.{BlockCheck, StoredForm, TextForm, LineCount}
+use Rattle.ring.specs.declared.refusals.Refusal.the-variants.{BlockCheck, StoredForm, TextForm, LineCount, SerialLive}
+use Rattle.ring.specs.declared.refusals.Refusal.the-variants.{SerialConfirmed, PendingRecord}
 use Rattle.ring.specs.declared.refusals.Verdict.{Verdict}
 use Rattle.ring.specs.declared.refusals.Verdict.the-variants.{Allowed, Refused}
 use Rattle.ring.specs.declared.refusals.Carried.{Carried}
@@ -38,6 +39,9 @@ numberOf BlockCheck = 19
 numberOf StoredForm = 20
 numberOf TextForm = 21
 numberOf LineCount = 22
+numberOf SerialLive = 23
+numberOf SerialConfirmed = 24
+numberOf PendingRecord = 25
 
 -- "In plan and check, 4, 5 and 7 carry the request number, 8 both, the others none."
 abbrev pub carriedBy : Refusal → Carried
@@ -65,6 +69,9 @@ carriedBy BlockCheck = None
 carriedBy StoredForm = None
 carriedBy TextForm = None
 carriedBy LineCount = None
+carriedBy SerialLive = None
+carriedBy SerialConfirmed = None
+carriedBy PendingRecord = None
 
 -- a ground, if its test holds
 abbrev pub refuseIf : Bool → Refusal → Verdict

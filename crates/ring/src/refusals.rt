@@ -27,6 +27,9 @@ pub enum Refusal {
     StoredForm,
     TextForm,
     LineCount,
+    SerialLive,
+    SerialConfirmed,
+    PendingRecord,
 }
 
 // Whether a ground is there: the first one in the order of the rules, or none.
@@ -91,6 +94,9 @@ pub fn number(refusal: Refusal) -> u16
         Refusal::StoredForm => 20,
         Refusal::TextForm => 21,
         Refusal::LineCount => 22,
+        Refusal::SerialLive => 23,
+        Refusal::SerialConfirmed => 24,
+        Refusal::PendingRecord => 25,
     }
 }
 
@@ -123,5 +129,8 @@ pub fn carried_by(refusal: Refusal) -> Carried
         Refusal::StoredForm => Carried::None,
         Refusal::TextForm => Carried::None,
         Refusal::LineCount => Carried::None,
+        Refusal::SerialLive => Carried::None,
+        Refusal::SerialConfirmed => Carried::None,
+        Refusal::PendingRecord => Carried::None,
     }
 }

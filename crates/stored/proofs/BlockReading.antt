@@ -14,8 +14,10 @@ use Rattle.ring.specs.declared.fates.Fate.{Fate}
 use Rattle.ring.specs.declared.fates.Fate.the-variants.{Served}
 use Rattle.ring.specs.Fates.{fateNumber, fateOf}
 use Rattle.ring.proofs.FateLaws.{fate-of-number}
+use Rattle.book.specs.declared.circuits.RecordState.the-variants.{Live}
 use Rattle.book.specs.declared.circuits.Circuit.{Circuit}
 use Rattle.book.specs.Circuits.{vacant, circuit}
+use Rattle.book.proofs.States.{live-granted}
 use Rattle.stored.specs.Blocks.{word, wordAt, checkOf, numbered, blockOf}
 use Rattle.stored.specs.Forms.{recordBytes, recordsBytes}
 use Rattle.stored.specs.Reading.{blockRight, circuitFrom, circuitAt, recordsIn}
@@ -49,8 +51,9 @@ module _ (p u q : List ℕ) (n : ℕ) (e : length p ≡ n) where
   pub word-read : (x : ℕ) → x < 65536 → wordAt (p ++ (u ++ (word x ++ q))) (n + length u) ≡ x
   word-read x h = word-cells (x % 256) (x / 256 % 256) ∙ word-back x h
 
--- a record, wherever it stands
+-- a record that is live, wherever it stands
 pub record Fields (c : Circuit) : Type 0 where
+  pub live : c .state ≡ Live
   pub serial : c .serial < 65536
   pub first : c .a < 65536
   pub second : c .b < 65536
@@ -76,6 +79,7 @@ circuit-read p q n c e f =
     (fateOf (wordAt (p ++ (recordBytes c ++ q)) (n + 6)))) a
     ∙ ap (λ (x : ℕ). circuitFrom (c .serial) (c .a) x (fateOf (wordAt (p ++ (recordBytes c ++ q)) (n + 6)))) b
     ∙ ap (λ (x : Fate). circuitFrom (c .serial) (c .a) (c .b) x) (ap fateOf k ∙ fate-of-number (Served (c .way) (c .colour)))
+    ∙ live-granted c (f .live)
 
 module _ (k : ℕ) (l : List ℕ) where
   abbrev pub behind : List ℕ

@@ -10,7 +10,7 @@ use Rattle.ring.specs.declared.fates.Fate.the-variants.{Served}
 use Rattle.ring.specs.Fates.{fateNumber}
 use Rattle.book.specs.declared.circuits.Circuit.{Circuit}
 use Rattle.book.specs.declared.books.Book.{Book}
-use Rattle.book.specs.Books.{liveOf}
+use Rattle.book.specs.Books.{recordsOf}
 use Rattle.stored.specs.Blocks.{word, checkOf, numbered, blockOf}
 use Rattle.stored.specs.Forms.{recordBytes, recordsBytes, circuitsOf, contents}
 
@@ -54,10 +54,10 @@ records-bytes (c ∷ cs) = append-bytes (recordBytes c) (recordsBytes cs) (recor
 
 contents-bytes : (b : Book) (k : ℕ) → Bytes (contents b k)
 contents-bytes b zero =
-    let live = word (length (liveOf b)) in
+    let live = word (length (recordsOf b)) in
     append-bytes (word (b .n)) (word (b .w) ++ (word (b .grants) ++ live)) (word-bytes (b .n))
     (append-bytes (word (b .w)) (word (b .grants) ++ live) (word-bytes (b .w))
-    (append-bytes (word (b .grants)) live (word-bytes (b .grants)) (word-bytes (length (liveOf b)))))
+    (append-bytes (word (b .grants)) live (word-bytes (b .grants)) (word-bytes (length (recordsOf b)))))
 contents-bytes b (suc k) = records-bytes (circuitsOf b k)
 
 pub block-bytes : (b : Book) (k : ℕ) → Bytes (blockOf k (contents b k))

@@ -10,7 +10,7 @@ use lib.ListN.{length, getD, take, drop, set, length-set}
 use lib.Seq.{getD-set-same, getD-set-other, take-set-lt, take-set-le, drop-set-add, getD-take, getD-drop}
 use Rattle.ring.proofs.Cases.{compare, less, not-less}
 use Rattle.book.specs.declared.books.Book.{Book}
-use Rattle.book.specs.Books.{liveOf}
+use Rattle.book.specs.Books.{recordsOf}
 use Rattle.stored.specs.Blocks.{wordAt, weighted, checkOf, blockOf}
 use Rattle.stored.specs.Forms.{contents, blockCount, storedForm}
 use Rattle.stored.specs.Reading.{partOf, blockRight, blocksRight}
@@ -117,7 +117,7 @@ change-refused b v i x h hx different =
     let room = v .circuits .room in
     let n : length (set (storedForm b) i x) ≡ length (storedForm b) = length-set (storedForm b) i x in
     let e : i / 512 * 512 + i % 512 ≡ i = omega arith in
-    let c : i / 512 < blockCount (length (liveOf b)) = omega (arith, form-length b) in
+    let c : i / 512 < blockCount (length (recordsOf b)) = omega (arith, form-length b) in
     let f : partOf (set (storedForm b) i x) (i / 512) ≡ set (blockOf (i / 512) (contents b (i / 512))) (i % 512) x =
     ap (λ (m : ℕ). partOf (set (storedForm b) m x) (i / 512)) (sym e)
     ∙ part-changed (storedForm b) (i / 512) (i % 512) x (omega arith)

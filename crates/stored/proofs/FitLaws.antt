@@ -15,7 +15,7 @@ use Rattle.links.proofs.RowLaws.{Holding, holding-none, holding-more, holding-f
 use Rattle.book.specs.declared.circuits.Circuit.{Circuit}
 use Rattle.book.specs.declared.books.Book.{Book}
 use Rattle.book.specs.Circuits.{vacant, circuit, someCircuit, endsOf, holds}
-use Rattle.book.specs.Books.{liveOf}
+use Rattle.book.specs.Books.{recordsOf}
 use Rattle.book.specs.Grants.{heldIn, heldOnWay}
 use Rattle.book.proofs.ConflictLaws.{true-and, conflict-held}
 use Rattle.stored.specs.Validity.{ringFits, circuitFits, serialFits, mayFollow, lastSerial, circuitsFit, bookFits}
@@ -82,8 +82,8 @@ held-next cs i link colour h =
 
 pub record Walk (b : Book) (rows : List (List ℕ)) (last i : ℕ) : Type 0 where
   pub fits : circuitsFit b i ≡ true
-  pub serial : last ≡ lastSerial (liveOf b) i
-  pub holding : Holding rows (λ colour link. heldIn (take i (liveOf b)) link colour)
+  pub serial : last ≡ lastSerial (recordsOf b) i
+  pub holding : Holding rows (λ colour link. heldIn (take i (recordsOf b)) link colour)
 
 pub walk-start : (b : Book) → Walk b none 0 0
 unfolding heldIn someCircuit
@@ -91,15 +91,15 @@ walk-start b = record {
   fits = refl;
   serial = refl;
   holding =
-      holding-none (λ colour link. heldIn (take 0 (liveOf b)) link colour) (λ colour link. refl);
+      holding-none (λ colour link. heldIn (take 0 (recordsOf b)) link colour) (λ colour link. refl);
 }
 
 module _ (b : Book) (rows after : List (List ℕ)) (last i : ℕ) (c : Circuit) (follows : Bool) (ring : ringFits (b .n) (b .w) ≡ true)
-    (h : i < length (liveOf b)) (s : Walk b rows last i)
-    (at : c ≡ circuit (liveOf b) i)
+    (h : i < length (recordsOf b)) (s : Walk b rows last i)
+    (at : c ≡ circuit (recordsOf b) i)
     (test : NextHolds rows after (circuitFits (b .n) (b .w) c && serialFits last (b .grants) (c .serial)) c follows) where
   abbrev cs : List Circuit
-  cs = liveOf b
+  cs = recordsOf b
 
   -- the circuits before are on n nodes, so that a shared link of the 256 is one of the n
   ends : (n : ℕ) → b .n ≤ n → (j : ℕ) → j < length (take i cs)
@@ -158,6 +158,6 @@ pub no-ring : (b : Book) → ringFits (b .n) (b .w) ≡ false → false ≡ book
 unfolding bookFits
 no-ring b e = cc
 
-pub circuits-left : (b : Book) → ringFits (b .n) (b .w) ≡ true → circuitsFit b (length (liveOf b)) ≡ bookFits b
+pub circuits-left : (b : Book) → ringFits (b .n) (b .w) ≡ true → circuitsFit b (length (recordsOf b)) ≡ bookFits b
 unfolding bookFits
 circuits-left b e = cc

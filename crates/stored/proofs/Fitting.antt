@@ -14,7 +14,7 @@ use Rattle.ring.proofs.WayLaws.{not-both, found-some, none-some}
 use Rattle.book.specs.declared.circuits.Circuit.{Circuit}
 use Rattle.book.specs.declared.books.Book.{Book}
 use Rattle.book.specs.Circuits.{vacant, circuit, endsOf, holds}
-use Rattle.book.specs.Books.{liveOf, bookOf, Valid, ValidCircuits}
+use Rattle.book.specs.Books.{recordsOf, bookOf, Valid, ValidCircuits}
 use Rattle.book.specs.Grants.{heldIn, heldOnWay}
 use Rattle.book.proofs.ConflictLaws.{true-and}
 use Rattle.book.proofs.CircuitLists.{Place, some-place, place-some}
@@ -23,10 +23,10 @@ use Rattle.stored.proofs.Joins.{never, contrary}
 
 module _ (b : Book) where
   abbrev cs : List Circuit
-  cs = liveOf b
+  cs = recordsOf b
 
   abbrev at : ℕ → Circuit
-  at i = circuit (liveOf b) i
+  at i = circuit (recordsOf b) i
 
   pub earlier : (i j : ℕ) → j < i → circuit (take i cs) j ≡ at j
   earlier i j h = getD-take i cs j vacant h

@@ -10,10 +10,11 @@ use lib.ListN.{length}
 use Rattle.ring.proofs.FateLaws.{number-within}
 use Rattle.book.specs.declared.books.Book.{Book}
 use Rattle.book.specs.Circuits.{circuit}
-use Rattle.book.specs.Books.{liveOf, bookOf, Valid}
+use Rattle.book.specs.Books.{recordsOf, hasPending, bookOf, Valid}
 use Rattle.ring.proofs.Cases.{and-true}
 use Rattle.book.proofs.ConflictLaws.{true-and}
-use Rattle.book.proofs.Forms.{live-form}
+use Rattle.book.proofs.Forms.{records-form}
+use Rattle.book.proofs.Pendings.{none-pending}
 use Rattle.stored.specs.declared.loads.LoadAnswer.the-variants as answer
 use Rattle.stored.specs.declared.loads.Loaded.{Loaded}
 use Rattle.stored.specs.Blocks.{word, wordAt}
@@ -25,7 +26,7 @@ use Rattle.ring.specs.Buffers.{sameBytes}
 use Rattle.stored.specs.Loading.{lengthWrong, formRight}
 use Rattle.stored.specs.Promises.{ReadsBack, IsForm, LoadsOnlyForms}
 use Rattle.stored.proofs.StoreLaws.{form-length}
-use Rattle.stored.proofs.ReadLaws.{circuits-few}
+use Rattle.stored.proofs.ReadLaws.{circuits-few, read-live}
 use Rattle.ring.proofs.BufferLaws.{same-refl, same-equal}
 use Rattle.stored.proofs.LoadLaws.{load-good, load-told}
 use Rattle.stored.proofs.BlockReading.{Fields}
@@ -33,7 +34,7 @@ use Rattle.stored.proofs.RoundTrip.{form-right, header-cells, book-back
 use Rattle.stored.proofs.Fitting.{valid-fits, fits-valid}
 
 -- the length of a stored form
-pub right-length : (b : Book) → length (liveOf b) ≤ 512 → lengthWrong (length (storedForm b)) ≡ false
+pub right-length : (b : Book) → length (recordsOf b) ≤ 512 → lengthWrong (length (storedForm b)) ≡ false
 unfolding lengthWrong
 right-length b h =
     let l : length (storedForm b) ≡ lengthOf b = form-length b in
@@ -44,13 +45,13 @@ right-length b h =
     ∙ ap (λ (t : Bool). not t || ltb 5120 (length (storedForm b))) q
     ∙ r
 
-pub right-blocks : (b : Book) → length (liveOf b) ≤ 512 → blocksRight (storedForm b) (length (storedForm b) / 512) ≡ true
+pub right-blocks : (b : Book) → length (recordsOf b) ≤ 512 → blocksRight (storedForm b) (length (storedForm b) / 512) ≡ true
 right-blocks b h =
-    let e : length (storedForm b) / 512 ≡ blockCount (length (liveOf b)) = omega (arith, form-length b) in
-    ap (blocksRight (storedForm b)) e ∙ form-right b (omega arith) (blockCount (length (liveOf b))) (omega arith)
+    let e : length (storedForm b) / 512 ≡ blockCount (length (recordsOf b)) = omega (arith, form-length b) in
+    ap (blocksRight (storedForm b)) e ∙ form-right b (omega arith) (blockCount (length (recordsOf b))) (omega arith)
 
-module _ (b : Book) (v : Valid b) where
-  fields : (i : ℕ) → i < length (liveOf b) → Fields (circuit (liveOf b) i)
+module _ (b : Book) (v : Valid b) (all : hasPending b ≡ false) where
+  fields : (i : ℕ) → i < length (recordsOf b) → Fields (circuit (recordsOf b) i)
   fields i h =
       let g = v .circuits .given i h in
       let e = v .circuits .ends i h in
@@ -58,8 +59,8 @@ module _ (b : Book) (v : Valid b) where
       let n = v .nodes .1 in
       let w = v .colours .1 in
       let few = v .few in
-      let f = number-within (circuit (liveOf b) i .way) (circuit (liveOf b) i .colour) (b .w) k in
-      record { serial = omega arith; first = omega arith; second = omega arith; fate = omega arith }
+      let f = number-within (circuit (recordsOf b) i .way) (circuit (recordsOf b) i .colour) (b .w) k in
+      record { live = none-pending b all i h; serial = omega arith; first = omega arith; second = omega arith; fate = omega arith }
 
   pub back : bookIn (storedForm b) ≡ b
   back =
@@ -74,23 +75,23 @@ module _ (b : Book) (v : Valid b) where
       ∙ true-and (bookFits b) (sameBytes (storedForm b) (storedForm b)) (valid-fits b v) (same-refl (storedForm b))
 
 pub reads-back : ReadsBack
-reads-back b v =
-    sym (load-good (storedForm b) (right-length b (v .circuits .room)) (right-blocks b (v .circuits .room)) (right-form b v))
-    ∙ ap (λ (x : Book). record { answer = answer.Loaded; book = x }) (back b v)
+reads-back b v all =
+    sym (load-good (storedForm b) (right-length b (v .circuits .room)) (right-blocks b (v .circuits .room)) (right-form b v all))
+    ∙ ap (λ (x : Book). record { answer = answer.Loaded; book = x }) (back b v all)
 
 -- what loads is a stored form
 module _ (bytes : List ℕ) where
-  form-is : bookIn bytes ≡ bookOf (bookIn bytes .n) (bookIn bytes .w) (bookIn bytes .grants) (liveOf (bookIn bytes))
+  form-is : bookIn bytes ≡ bookOf (bookIn bytes .n) (bookIn bytes .w) (bookIn bytes .grants) (recordsOf (bookIn bytes))
   unfolding bookIn
   form-is = ap (bookOf (wordAt (partOf bytes 0) 0) (wordAt (partOf bytes 0) 2) (wordAt (partOf bytes 0) 4))
-      (sym (live-form (wordAt (partOf bytes 0) 0) (wordAt (partOf bytes 0) 2) (wordAt (partOf bytes 0) 4)
+      (sym (records-form (wordAt (partOf bytes 0) 0) (wordAt (partOf bytes 0) 2) (wordAt (partOf bytes 0) 4)
       (circuitsIn bytes (min 512 (wordAt (partOf bytes 0) 6)) (length bytes / 512 - 1))))
 
-  room-is : length (liveOf (bookIn bytes)) ≤ 512
+  room-is : length (recordsOf (bookIn bytes)) ≤ 512
   unfolding bookIn
   room-is =
-      let e : length (liveOf (bookIn bytes)) ≡ length (circuitsIn bytes (min 512 (wordAt (partOf bytes 0) 6)) (length bytes / 512 - 1)) =
-      ap length (live-form (wordAt (partOf bytes 0) 0) (wordAt (partOf bytes 0) 2) (wordAt (partOf bytes 0) 4)
+      let e : length (recordsOf (bookIn bytes)) ≡ length (circuitsIn bytes (min 512 (wordAt (partOf bytes 0) 6)) (length bytes / 512 - 1)) =
+      ap length (records-form (wordAt (partOf bytes 0) 0) (wordAt (partOf bytes 0) 2) (wordAt (partOf bytes 0) 4)
       (circuitsIn bytes (min 512 (wordAt (partOf bytes 0) 6)) (length bytes / 512 - 1))) in
       omega (arith, circuits-few bytes (min 512 (wordAt (partOf bytes 0) 6)) (length bytes / 512 - 1))
 
@@ -104,7 +105,7 @@ module _ (bytes : List ℕ) where
       let h : bookIn bytes .grants ≡ g % 256 + 256 * (g / 256 % 256) =
       grants-are ∙ ap (λ (l : List ℕ). wordAt (partOf l 0) 4) e
       ∙ header-cells (bookIn bytes) (bookIn bytes .grants) (word (bookIn bytes .n) ++ word (bookIn bytes .w))
-      (word (length (liveOf (bookIn bytes)))) refl
+      (word (length (recordsOf (bookIn bytes)))) refl
       in
       omega arith
 
@@ -113,7 +114,7 @@ module _ (bytes : List ℕ) where
   form-told e =
       let s = and-true (bookFits (bookIn bytes)) (sameBytes bytes (storedForm (bookIn bytes))) e in
       let f : bytes ≡ storedForm (bookIn bytes) = same-equal bytes (storedForm (bookIn bytes)) (s .1) in
-      record { valid = fits-valid (bookIn bytes) (s .0) form-is room-is (few-are f); form = f }
+      record { valid = fits-valid (bookIn bytes) (s .0) form-is room-is (few-are f); live = read-live bytes; form = f }
 
 pub loads-only-forms : LoadsOnlyForms
 loads-only-forms bytes e =

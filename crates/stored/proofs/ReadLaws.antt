@@ -1,7 +1,7 @@
 -- Reading circuits, block by block, into a book.
-use Prim.Native.Nat.{ℕ, zero, suc, _+_, _-_, _*_, _≤_, _<_, min}
+use Prim.Native.Nat.{ℕ, zero, suc, _+_, _-_, _*_, _/_, _≤_, _<_, min}
 use mathlib.Core.Path.{_≡_, refl, sym, _∙_, ap}
-use mathlib.Core.Bool.{Bool, _&&_}
+use mathlib.Core.Bool.{Bool, true, false, not, _&&_, _||_}
 use mathlib.Core.List.{List, [], _∷_, _++_, append-nil, append-assoc}
 use native.Mathlib.Omega.{arith}
 use native.Mathlib.Numerals.{add-one}
@@ -9,14 +9,16 @@ use lib.Dec.{eqb}
 use lib.ListN.{length, take, drop, set, replicate, length-append}
 use lib.Seq.{set-append-seam, append-snoc}
 use Rattle.ring.specs.declared.fates.Fate.{Fate}
+use Rattle.ring.specs.declared.fates.Fate.the-variants.{Blocked, Served}
 use Rattle.ring.specs.Fates.{fateOf}
 use Rattle.book.specs.declared.circuits.Circuit.{Circuit}
 use Rattle.book.specs.declared.books.Book.{Book}
-use Rattle.book.specs.Circuits.{vacant}
-use Rattle.book.specs.Books.{liveOf, bookOf}
-use Rattle.book.proofs.Forms.{live-form}
+use Rattle.book.specs.Circuits.{vacant, isLive, someCircuit}
+use Rattle.book.specs.Books.{recordsOf, hasPending, bookOf}
+use Rattle.book.proofs.Forms.{records-form}
+use Rattle.book.proofs.Pendings.{none-append}
 use Rattle.stored.specs.Blocks.{wordAt, checkOf}
-use Rattle.stored.specs.Reading.{partOf, blockRight, blocksRight, circuitFrom, circuitAt, recordsIn, circuitsIn}
+use Rattle.stored.specs.Reading.{partOf, blockRight, blocksRight, circuitFrom, circuitAt, recordsIn, circuitsIn, bookIn}
 use Rattle.stored.specs.Internal.Handing.{extended}
 
 -- the part that the code hands on
@@ -59,9 +61,9 @@ records-in-length block (suc i) =
     let h : length (recordsIn block i) ≡ i = records-in-length block i in
     length-append (recordsIn block i) (circuitAt block (8 * i) ∷ []) ∙ omega arith
 
--- a circuit put behind the live ones
+-- a circuit put behind the records
 pub book-append : (n w g : ℕ) (cs : List Circuit) (c : Circuit) (k : ℕ) → k ≡ length cs → length cs < 512
-    → _≡_ {A = Book} (record { n = n; w = w; grants = g; live = k + 1; places = set (cs ++ replicate (512 - length cs) vacant) k c })
+    → _≡_ {A = Book} (record { n = n; w = w; grants = g; records = k + 1; places = set (cs ++ replicate (512 - length cs) vacant) k c })
     (bookOf n w g (cs ++ (c ∷ [])))
 book-append n w g cs c k e h =
     let l : length (cs ++ (c ∷ [])) ≡ length cs + 1 = length-append cs (c ∷ []) in
@@ -73,37 +75,38 @@ book-append n w g cs c k e h =
     ∙ sym (append-snoc cs c (replicate (512 - length (cs ++ (c ∷ []))) vacant))
     in
     let q : k + 1 ≡ length (cs ++ (c ∷ [])) = omega arith in
-    ap (λ (ps : List Circuit). record { n = n; w = w; grants = g; live = k + 1; places = ps }) p
+    ap (λ (ps : List Circuit). record { n = n; w = w; grants = g; records = k + 1; places = ps }) p
     ∙ ap (λ (j : ℕ). record {
       n = n;
       w = w;
       grants = g;
-      live = j;
+      records = j;
       places =
           (cs ++ (c ∷ [])) ++ replicate (512 - length (cs ++ (c ∷ []))) vacant;
     }) q
 
 module _ (b : Book) (block : List ℕ) where
-  extended-length : (i : ℕ) → length (liveOf b ++ recordsIn block i) ≡ length (liveOf b) + i
-  extended-length i = length-append (liveOf b) (recordsIn block i) ∙ ap (λ (j : ℕ). length (liveOf b) + j) (records-in-length block i)
+  extended-length : (i : ℕ) → length (recordsOf b ++ recordsIn block i) ≡ length (recordsOf b) + i
+  extended-length i = length-append (recordsOf b) (recordsIn block i) ∙ ap (λ (j : ℕ). length (recordsOf b) + j) (records-in-length block i)
 
-  pub extended-next : (filled : Book) (first i live : ℕ) (c : Circuit) → filled ≡ extended b (recordsIn block i) → first ≡ length (liveOf b)
+  pub extended-next : (filled : Book) (first i live : ℕ) (c : Circuit) → filled ≡ extended b (recordsIn block i)
+      → first ≡ length (recordsOf b)
       → first + i < 512 → live ≡ first + i + 1 → c ≡ circuitAt block (8 * i)
       → _≡_ {A = Book} (record {
         n = filled .n;
         w = filled .w;
         grants = filled .grants;
-        live = live;
+        records = live;
         places =
             set (filled .places) (first + i) c;
       }) (extended b (recordsIn block (i + 1)))
   extended-next filled first i live c e f h l q =
-      ap (λ (x : Book). record { n = x .n; w = x .w; grants = x .grants; live = live; places = set (x .places) (first + i) c }) e
+      ap (λ (x : Book). record { n = x .n; w = x .w; grants = x .grants; records = live; places = set (x .places) (first + i) c }) e
       ∙ ap (λ (j : ℕ). record {
         n = b .n;
         w = b .w;
         grants = b .grants;
-        live = j;
+        records = j;
         places =
             set (extended b (recordsIn block i) .places) (first + i) c;
       }) l
@@ -112,14 +115,14 @@ module _ (b : Book) (block : List ℕ) where
         n = b .n;
         w = b .w;
         grants = b .grants;
-        live = first + i + 1;
+        records = first + i + 1;
         places =
             set (extended b (recordsIn block i) .places) (first + i) x;
       }) q
-      ∙ book-append (b .n) (b .w) (b .grants) (liveOf b ++ recordsIn block i) (circuitAt block (8 * i)) (first + i)
+      ∙ book-append (b .n) (b .w) (b .grants) (recordsOf b ++ recordsIn block i) (circuitAt block (8 * i)) (first + i)
       (omega (arith, extended-length i)) (omega (arith, extended-length i))
-      ∙ ap (bookOf (b .n) (b .w) (b .grants)) (append-assoc (liveOf b) (recordsIn block i) (circuitAt block (8 * i) ∷ [])
-      ∙ ap (λ (j : ℕ). liveOf b ++ recordsIn block j) (sym (add-one i)))
+      ∙ ap (bookOf (b .n) (b .w) (b .grants)) (append-assoc (recordsOf b) (recordsIn block i) (circuitAt block (8 * i) ∷ [])
+      ∙ ap (λ (j : ℕ). recordsOf b ++ recordsIn block j) (sym (add-one i)))
 
 -- a book that was read so far, and one block more
 pub circuits-few : (bytes : List ℕ) (live k : ℕ) → length (circuitsIn bytes live k) ≤ live
@@ -136,24 +139,24 @@ circuits-few bytes live (suc k) =
 pub form-of : (b : Book) (n w g : ℕ) (cs : List Circuit) → b ≡ bookOf n w g cs → b ≡ extended b []
 form-of b n w g cs e =
     e
-    ∙ ap (bookOf n w g) (sym (ap (λ (l : List Circuit). l ++ []) (live-form n w g cs) ∙ append-nil cs))
+    ∙ ap (bookOf n w g) (sym (ap (λ (l : List Circuit). l ++ []) (records-form n w g cs) ∙ append-nil cs))
     ∙ ap (λ (x : Book). extended x []) (sym e)
 
-pub live-of : (b : Book) (n w g : ℕ) (cs : List Circuit) → b ≡ bookOf n w g cs → liveOf b ≡ cs
-live-of b n w g cs e = ap liveOf e ∙ live-form n w g cs
+pub records-of : (b : Book) (n w g : ℕ) (cs : List Circuit) → b ≡ bookOf n w g cs → recordsOf b ≡ cs
+records-of b n w g cs e = ap recordsOf e ∙ records-form n w g cs
 
 pub read-next : (bytes part : List ℕ) (live n w g k : ℕ) (b r : Book) → 1 ≤ k → b ≡ bookOf n w g (circuitsIn bytes live (k - 1))
     → part ≡ partOf bytes k
-    → r ≡ extended b (recordsIn part (min 63 (live - length (liveOf b)))) → r ≡ bookOf n w g (circuitsIn bytes live k)
+    → r ≡ extended b (recordsIn part (min 63 (live - length (recordsOf b)))) → r ≡ bookOf n w g (circuitsIn bytes live k)
 read-next bytes part live n w g zero b r h e p q = absurd (omega arith)
 read-next bytes part live n w g (suc k) b r h e p q =
     let s : suc k - 1 ≡ k = omega arith in
     let f : b ≡ bookOf n w g (circuitsIn bytes live k) = e ∙ ap (λ (j : ℕ). bookOf n w g (circuitsIn bytes live j)) s in
     q
-    ∙ ap (λ (l : List ℕ). extended b (recordsIn l (min 63 (live - length (liveOf b))))) p
-    ∙ ap (λ (x : Book). extended x (recordsIn (partOf bytes (suc k)) (min 63 (live - length (liveOf x))))) f
+    ∙ ap (λ (l : List ℕ). extended b (recordsIn l (min 63 (live - length (recordsOf b))))) p
+    ∙ ap (λ (x : Book). extended x (recordsIn (partOf bytes (suc k)) (min 63 (live - length (recordsOf x))))) f
     ∙ ap (λ (cs : List Circuit). bookOf n w g (cs ++ recordsIn (partOf bytes (suc k)) (min 63 (live - length cs))))
-    (live-form n w g (circuitsIn bytes live k))
+    (records-form n w g (circuitsIn bytes live k))
 
 pub blank-steps : (r : Book) (x y z n w g : ℕ) → r ≡ bookOf x y z [] → x ≡ n → y ≡ w → z ≡ g → r ≡ bookOf n w g []
 blank-steps r x y z n w g h e f k =
@@ -161,3 +164,27 @@ blank-steps r x y z n w g h e f k =
     ∙ ap (λ (j : ℕ). bookOf j y z []) e
     ∙ ap (λ (j : ℕ). bookOf n j z []) f
     ∙ ap (λ (j : ℕ). bookOf n w j []) k
+
+-- every record that is read is live
+circuit-live : (serial a b : ℕ) (f : Fate) → isLive (circuitFrom serial a b f) ≡ true
+circuit-live serial a b Blocked = refl
+circuit-live serial a b (Served way colour) = refl
+
+records-live : (block : List ℕ) (i : ℕ) → someCircuit (recordsIn block i) (λ c. not (isLive c)) ≡ false
+unfolding someCircuit circuitAt
+records-live block zero = refl
+records-live block (suc i) = none-append (recordsIn block i) (circuitAt block (8 * i) ∷ []) (λ c. not (isLive c)) (records-live block i)
+    (ap (λ (t : Bool). not t || false) (circuit-live _ _ _ (fateOf (wordAt block (8 * i + 6)))))
+
+circuits-live : (bytes : List ℕ) (live k : ℕ) → someCircuit (circuitsIn bytes live k) (λ c. not (isLive c)) ≡ false
+unfolding someCircuit
+circuits-live bytes live zero = refl
+circuits-live bytes live (suc k) = none-append (circuitsIn bytes live k) _ (λ c. not (isLive c)) (circuits-live bytes live k)
+    (records-live (partOf bytes (suc k)) (min 63 (live - length (circuitsIn bytes live k))))
+
+pub read-live : (bytes : List ℕ) → hasPending (bookIn bytes) ≡ false
+unfolding hasPending bookIn
+read-live bytes =
+    ap (λ (cs : List Circuit). someCircuit cs (λ c. not (isLive c)))
+    (records-form 0 0 0 (circuitsIn bytes (min 512 (wordAt (partOf bytes 0) 6)) (length bytes / 512 - 1)))
+    ∙ circuits-live bytes (min 512 (wordAt (partOf bytes 0) 6)) (length bytes / 512 - 1)

@@ -9,7 +9,7 @@ use lib.Seq.{take-suc, take-all, getD-take, getD-drop, length-take-le}
 use Rattle.book.specs.declared.circuits.Circuit.{Circuit}
 use Rattle.book.specs.declared.books.Book.{Book}
 use Rattle.book.specs.Circuits.{vacant}
-use Rattle.book.specs.Books.{liveOf}
+use Rattle.book.specs.Books.{recordsOf}
 use Rattle.ring.specs.Buffers.{written}
 use Rattle.stored.specs.Blocks.{blockOf}
 use Rattle.stored.specs.Internal.Handing.{sealed}
@@ -50,18 +50,18 @@ records-sealed number rs i block h few e =
     ∙ sealed-pad number (recordsBytes rs) (omega (arith, records-length rs))
 
 module _ (b : Book) (k : ℕ) where
-  pub share : length (circuitsOf b k) ≡ min 63 (length (liveOf b) - 63 * k)
-  share = length-take 63 (drop (63 * k) (liveOf b)) ∙ ap (min 63) (length-drop (63 * k) (liveOf b))
+  pub share : length (circuitsOf b k) ≡ min 63 (length (recordsOf b) - 63 * k)
+  share = length-take 63 (drop (63 * k) (recordsOf b)) ∙ ap (min 63) (length-drop (63 * k) (recordsOf b))
 
   pub share-few : length (circuitsOf b k) ≤ 63
   share-few = omega (arith, share)
 
   pub share-at : (i : ℕ) → i < length (circuitsOf b k) → getD (circuitsOf b k) i vacant ≡ getD (b .places) (63 * k + i) vacant
   share-at i h =
-      let l : 63 * k + i < b .live = omega (arith, share, length-take (b .live) (b .places)) in
-      getD-take 63 (drop (63 * k) (liveOf b)) i vacant (omega (arith, share))
-      ∙ getD-drop (63 * k) (liveOf b) i vacant
-      ∙ getD-take (b .live) (b .places) (63 * k + i) vacant l
+      let l : 63 * k + i < b .records = omega (arith, share, length-take (b .records) (b .places)) in
+      getD-take 63 (drop (63 * k) (recordsOf b)) i vacant (omega (arith, share))
+      ∙ getD-drop (63 * k) (recordsOf b) i vacant
+      ∙ getD-take (b .records) (b .places) (63 * k + i) vacant l
 
 pub later-contents : (b : Book) (number : ℕ) → 1 ≤ number → contents b number ≡ recordsBytes (circuitsOf b (number - 1))
 later-contents b zero h = absurd (omega arith)

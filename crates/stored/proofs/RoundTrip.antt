@@ -10,7 +10,7 @@ use Rattle.ring.proofs.Cases.{compare, less, not-less}
 use Rattle.book.specs.declared.circuits.Circuit.{Circuit}
 use Rattle.book.specs.declared.books.Book.{Book}
 use Rattle.book.specs.Circuits.{vacant, circuit}
-use Rattle.book.specs.Books.{liveOf, bookOf}
+use Rattle.book.specs.Books.{recordsOf, bookOf}
 use Rattle.stored.specs.Blocks.{word, wordAt, blockOf}
 use Rattle.stored.specs.Forms.{recordsBytes, headerBytes, circuitsOf, contents, blocks, blockCount, storedForm}
 use Rattle.stored.specs.Reading.{partOf, blockRight, blocksRight, recordsIn, circuitsIn, bookIn}
@@ -39,7 +39,7 @@ module _ (b : Book) where
       ]
 
   abbrev count : ℕ
-  count = blockCount (length (liveOf b))
+  count = blockCount (length (recordsOf b))
 
   pub form-part : (k : ℕ) → k < count → partOf (storedForm b) k ≡ blockOf k (contents b k)
   unfolding storedForm
@@ -54,29 +54,30 @@ module _ (b : Book) where
       ∙ block-is-right m (contents b m) (contents-few b m) (omega arith)
 
   -- the circuits
-  pub circuits-back : ((i : ℕ) → i < length (liveOf b) → Fields (circuit (liveOf b) i)) → (k : ℕ) → k < count
-      → circuitsIn (storedForm b) (length (liveOf b)) k ≡ take (63 * k) (liveOf b)
+  pub circuits-back : ((i : ℕ) → i < length (recordsOf b) → Fields (circuit (recordsOf b) i)) → (k : ℕ) → k < count
+      → circuitsIn (storedForm b) (length (recordsOf b)) k ≡ take (63 * k) (recordsOf b)
   circuits-back f zero h = refl
   circuits-back f (suc k) h =
-      let m : min 63 (length (liveOf b) - length (take (63 * k) (liveOf b))) ≡ length (circuitsOf b k) =
-      omega (arith, share b k, length-take (63 * k) (liveOf b)) in
+      let m : min 63 (length (recordsOf b) - length (take (63 * k) (recordsOf b))) ≡ length (circuitsOf b k) =
+      omega (arith, share b k, length-take (63 * k) (recordsOf b)) in
       let n : 63 * k + 63 ≡ 63 * suc k = omega arith in
-      ap (λ (cs : List Circuit). cs ++ recordsIn (partOf (storedForm b) (suc k)) (min 63 (length (liveOf b) - length cs)))
+      ap (λ (cs : List Circuit). cs ++ recordsIn (partOf (storedForm b) (suc k)) (min 63 (length (recordsOf b) - length cs)))
       (circuits-back f k (omega arith))
-      ∙ ap (λ (l : List ℕ). take (63 * k) (liveOf b) ++ recordsIn l (min 63 (length (liveOf b) - length (take (63 * k) (liveOf b)))))
+      ∙ ap (λ (l : List ℕ).
+      take (63 * k) (recordsOf b) ++ recordsIn l (min 63 (length (recordsOf b) - length (take (63 * k) (recordsOf b)))))
       (form-part (suc k) h)
-      ∙ ap (λ (j : ℕ). take (63 * k) (liveOf b) ++ recordsIn (blockOf (suc k) (recordsBytes (circuitsOf b k))) j) m
-      ∙ ap (λ (cs : List Circuit). take (63 * k) (liveOf b) ++ cs)
+      ∙ ap (λ (j : ℕ). take (63 * k) (recordsOf b) ++ recordsIn (blockOf (suc k) (recordsBytes (circuitsOf b k))) j) m
+      ∙ ap (λ (cs : List Circuit). take (63 * k) (recordsOf b) ++ cs)
       (records-back (suc k) (circuitsOf b k) (of-share k f) (length (circuitsOf b k)) (omega arith)
       ∙ take-all (length (circuitsOf b k)) (circuitsOf b k) (omega arith))
-      ∙ sym (take-add (63 * k) 63 (liveOf b))
-      ∙ ap (λ (j : ℕ). take j (liveOf b)) n
+      ∙ sym (take-add (63 * k) 63 (recordsOf b))
+      ∙ ap (λ (j : ℕ). take j (recordsOf b)) n
     where
-      of-share : (k : ℕ) → ((i : ℕ) → i < length (liveOf b) → Fields (circuit (liveOf b) i)) → (i : ℕ) → i < length (circuitsOf b k)
+      of-share : (k : ℕ) → ((i : ℕ) → i < length (recordsOf b) → Fields (circuit (recordsOf b) i)) → (i : ℕ) → i < length (circuitsOf b k)
           → Fields (circuit (circuitsOf b k) i)
       of-share k f i h =
-          let e : circuit (circuitsOf b k) i ≡ circuit (liveOf b) (63 * k + i) =
-          getD-take 63 (drop (63 * k) (liveOf b)) i vacant (omega (arith, share b k)) ∙ getD-drop (63 * k) (liveOf b) i vacant in
+          let e : circuit (circuitsOf b k) i ≡ circuit (recordsOf b) (63 * k + i) =
+          getD-take 63 (drop (63 * k) (recordsOf b)) i vacant (omega (arith, share b k)) ∙ getD-drop (63 * k) (recordsOf b) i vacant in
           subst Fields (sym e) (f (63 * k + i) (omega (arith, share b k)))
 
   -- the header
@@ -92,26 +93,26 @@ module _ (b : Book) where
     pub header-word : x < 65536 → wordAt (partOf (storedForm b) 0) (length u) ≡ x
     header-word h = header-cells ∙ word-back x h
 
-  pub book-back : ((i : ℕ) → i < length (liveOf b) → Fields (circuit (liveOf b) i)) → b .n < 65536 → b .w < 65536 → b .grants < 65536
-      → length (liveOf b) ≤ 512
-      → bookIn (storedForm b) ≡ bookOf (b .n) (b .w) (b .grants) (liveOf b)
+  pub book-back : ((i : ℕ) → i < length (recordsOf b) → Fields (circuit (recordsOf b) i)) → b .n < 65536 → b .w < 65536 → b .grants < 65536
+      → length (recordsOf b) ≤ 512
+      → bookIn (storedForm b) ≡ bookOf (b .n) (b .w) (b .grants) (recordsOf b)
   unfolding bookIn
   book-back f hn hw hg hl =
       let n : wordAt (partOf (storedForm b) 0) 0 ≡ b .n =
-      header-word (b .n) [] (word (b .w) ++ (word (b .grants) ++ word (length (liveOf b)))) refl hn in
+      header-word (b .n) [] (word (b .w) ++ (word (b .grants) ++ word (length (recordsOf b)))) refl hn in
       let w : wordAt (partOf (storedForm b) 0) 2 ≡ b .w =
-      header-word (b .w) (word (b .n)) (word (b .grants) ++ word (length (liveOf b))) refl hw in
+      header-word (b .w) (word (b .n)) (word (b .grants) ++ word (length (recordsOf b))) refl hw in
       let g : wordAt (partOf (storedForm b) 0) 4 ≡ b .grants =
-      header-word (b .grants) (word (b .n) ++ word (b .w)) (word (length (liveOf b))) refl hg in
-      let l : wordAt (partOf (storedForm b) 0) 6 ≡ length (liveOf b) =
-      header-word (length (liveOf b)) (word (b .n) ++ (word (b .w) ++ word (b .grants))) [] refl (omega arith) in
-      let m : min 512 (wordAt (partOf (storedForm b) 0) 6) ≡ length (liveOf b) = omega arith in
-      let k : length (storedForm b) / 512 - 1 ≡ (length (liveOf b) + 62) / 63 = omega (arith, form-length b) in
-      let c : circuitsIn (storedForm b) (min 512 (wordAt (partOf (storedForm b) 0) 6)) (length (storedForm b) / 512 - 1) ≡ liveOf b =
+      header-word (b .grants) (word (b .n) ++ word (b .w)) (word (length (recordsOf b))) refl hg in
+      let l : wordAt (partOf (storedForm b) 0) 6 ≡ length (recordsOf b) =
+      header-word (length (recordsOf b)) (word (b .n) ++ (word (b .w) ++ word (b .grants))) [] refl (omega arith) in
+      let m : min 512 (wordAt (partOf (storedForm b) 0) 6) ≡ length (recordsOf b) = omega arith in
+      let k : length (storedForm b) / 512 - 1 ≡ (length (recordsOf b) + 62) / 63 = omega (arith, form-length b) in
+      let c : circuitsIn (storedForm b) (min 512 (wordAt (partOf (storedForm b) 0) 6)) (length (storedForm b) / 512 - 1) ≡ recordsOf b =
       ap (λ (j : ℕ). circuitsIn (storedForm b) j (length (storedForm b) / 512 - 1)) m
-      ∙ ap (circuitsIn (storedForm b) (length (liveOf b))) k
-      ∙ circuits-back f ((length (liveOf b) + 62) / 63) (omega arith)
-      ∙ take-all (63 * ((length (liveOf b) + 62) / 63)) (liveOf b) (omega arith)
+      ∙ ap (circuitsIn (storedForm b) (length (recordsOf b))) k
+      ∙ circuits-back f ((length (recordsOf b) + 62) / 63) (omega arith)
+      ∙ take-all (63 * ((length (recordsOf b) + 62) / 63)) (recordsOf b) (omega arith)
       in
       ap (λ (j : ℕ). bookOf j (wordAt (partOf (storedForm b) 0) 2) (wordAt (partOf (storedForm b) 0) 4)
       (circuitsIn (storedForm b) (min 512 (wordAt (partOf (storedForm b) 0) 6)) (length (storedForm b) / 512 - 1))) n

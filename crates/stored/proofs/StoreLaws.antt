@@ -1,7 +1,7 @@
 -- The blocks of a book, one behind the other, as the walk of store leaves them in the buffer.
 use Prim.Native.Nat.{ℕ, zero, suc, _+_, _-_, _*_, _≤_, _<_}
 use mathlib.Core.Path.{_≡_, refl, sym, _∙_, ap}
-use mathlib.Core.Bool.{Bool, cond}
+use mathlib.Core.Bool.{Bool, true, false, cond}
 use mathlib.Core.List.{List, _++_, append-assoc}
 use native.Mathlib.Omega.{arith}
 use native.Mathlib.Numerals.{add-one}
@@ -9,13 +9,13 @@ use borrow.Author.Tests.{lt-ltb, le-ltb}
 use borrow.Rule.Slice.PartMut.{putMid}
 use lib.ListN.{length, take, drop, length-append, length-take, length-drop}
 use lib.Seq.{take-at, drop-at, drop-append-add, drop-drop}
-use Rattle.ring.specs.declared.refusals.Refusal.the-variants.{BufferShort}
+use Rattle.ring.specs.declared.refusals.Refusal.the-variants.{BufferShort, PendingRecord}
 use Rattle.book.specs.declared.books.Book.{Book}
-use Rattle.book.specs.Books.{liveOf}
+use Rattle.book.specs.Books.{recordsOf, hasPending}
 use Rattle.stored.specs.declared.stores.StoreAnswer.the-variants.{Stored, Refused}
 use Rattle.stored.specs.Blocks.{word, blockOf}
 use Rattle.stored.specs.Forms.{circuitsOf, contents, blocks, blockCount, storedForm}
-use Rattle.stored.specs.Storing.{lengthOf, storeAnswer, afterStore}
+use Rattle.stored.specs.Storing.{lengthOf, formAnswer, afterForm, storeAnswer, afterStore}
 use Rattle.stored.proofs.BlockLaws.{block-length}
 use Rattle.stored.proofs.RecordLaws.{records-length, share-few}
 
@@ -38,10 +38,10 @@ module _ (b : Book) where
 
   pub form-length : length (storedForm b) ≡ lengthOf b
   unfolding storedForm
-  form-length = blocks-length (blockCount (length (liveOf b)))
+  form-length = blocks-length (blockCount (length (recordsOf b)))
 
   -- block 0
-  pub first-block : (live : ℕ) (front : List ℕ) → live ≡ length (liveOf b)
+  pub first-block : (live : ℕ) (front : List ℕ) → live ≡ length (recordsOf b)
       → front ≡ blockOf 0 (word (b .n) ++ (word (b .w) ++ (word (b .grants) ++ word live))) → front ≡ blocks b 1
   first-block live front e h = h ∙ ap (λ (x : ℕ). blockOf 0 (word (b .n) ++ (word (b .w) ++ (word (b .grants) ++ word x)))) e
 
@@ -68,20 +68,21 @@ module _ (b : Book) where
 
   -- the answers
   pub store-short : (buffer : List ℕ) → length buffer < lengthOf b
-      → (Refused BufferShort ≡ storeAnswer b buffer) × (buffer ≡ afterStore b buffer)
-  unfolding storeAnswer afterStore
+      → (Refused BufferShort ≡ formAnswer b buffer) × (buffer ≡ afterForm b buffer)
+  unfolding formAnswer afterForm
   store-short buffer h = (
     sym (ap (λ (t : Bool). cond t (Refused BufferShort) (Stored (lengthOf b))) (lt-ltb _ _ h)),
     sym (ap (λ (t : Bool). cond t buffer (storedForm b ++ drop (lengthOf b) buffer)) (lt-ltb _ _ h)),
   )
 
-  pub store-answer : (buffer : List ℕ) (n : ℕ) → n ≡ lengthOf b → lengthOf b ≤ length buffer → Stored n ≡ storeAnswer b buffer
-  unfolding storeAnswer
+  pub store-answer : (buffer : List ℕ) (n : ℕ) → n ≡ lengthOf b → lengthOf b ≤ length buffer → Stored n ≡ formAnswer b buffer
+  unfolding formAnswer
   store-answer buffer n e h = ap Stored e ∙ sym (ap (λ (t : Bool). cond t (Refused BufferShort) (Stored (lengthOf b))) (le-ltb _ _ h))
 
-  pub store-done : (buffer old front : List ℕ) (k : ℕ) → k ≡ blockCount (length (liveOf b)) → lengthOf b ≤ length old → length front ≡ 512
-      → buffer ≡ blocks b k ++ drop (512 * k) (front ++ drop 512 old) → buffer ≡ afterStore b old
-  unfolding afterStore storedForm
+  pub store-done : (buffer old front : List ℕ) (k : ℕ) → k ≡ blockCount (length (recordsOf b)) → lengthOf b ≤ length old
+      → length front ≡ 512
+      → buffer ≡ blocks b k ++ drop (512 * k) (front ++ drop 512 old) → buffer ≡ afterForm b old
+  unfolding afterForm storedForm
   store-done buffer old front k e h f g =
       let n : 512 * k ≡ length front + (512 * k - 512) = omega arith in
       let m : 512 + (512 * k - 512) ≡ 512 * k = omega arith in
@@ -92,12 +93,29 @@ module _ (b : Book) where
       ∙ ap (λ (j : ℕ). blocks b j ++ drop (512 * j) old) e
       ∙ sym (ap (λ (t : Bool). cond t old (storedForm b ++ drop (lengthOf b) old)) (le-ltb _ _ h))
 
-  pub store-copied : (old : List ℕ) → lengthOf b ≤ length old → afterStore b old ≡ storedForm b ++ drop (lengthOf b) old
-  unfolding afterStore
+  pub store-copied : (old : List ℕ) → lengthOf b ≤ length old → afterForm b old ≡ storedForm b ++ drop (lengthOf b) old
+  unfolding afterForm
   store-copied old h = ap (λ (t : Bool). cond t old (storedForm b ++ drop (lengthOf b) old)) (le-ltb _ _ h)
 
+  -- 25, and what is stored without it
+  pub store-pending : (buffer : List ℕ) → hasPending b ≡ true
+      → (Refused PendingRecord ≡ storeAnswer b buffer) × (buffer ≡ afterStore b buffer)
+  unfolding storeAnswer afterStore
+  store-pending buffer e = (
+    sym (ap (λ (t : Bool). cond t (Refused PendingRecord) (formAnswer b buffer)) e),
+    sym (ap (λ (t : Bool). cond t buffer (afterForm b buffer)) e),
+  )
+
+  pub store-live : (buffer : List ℕ) → hasPending b ≡ false
+      → (formAnswer b buffer ≡ storeAnswer b buffer) × (afterForm b buffer ≡ afterStore b buffer)
+  unfolding storeAnswer afterStore
+  store-live buffer e = (
+    sym (ap (λ (t : Bool). cond t (Refused PendingRecord) (formAnswer b buffer)) e),
+    sym (ap (λ (t : Bool). cond t buffer (afterForm b buffer)) e),
+  )
+
   -- the front of a buffer that is long enough
-  pub store-front : (copy old : List ℕ) (n : ℕ) → n ≡ lengthOf b → lengthOf b ≤ length old → copy ≡ afterStore b old
+  pub store-front : (copy old : List ℕ) (n : ℕ) → n ≡ lengthOf b → lengthOf b ≤ length old → copy ≡ afterForm b old
       → take (n - 0) copy ≡ storedForm b
   store-front copy old n e h g =
       let m : n - 0 ≡ lengthOf b = omega arith in

@@ -5,6 +5,6 @@ use Rattle.stored.specs.Histories.{StoredHistories}
 use Rattle.stored.proofs.Promised.{reads-back}
 
 pub stored-histories : StoredHistories
-stored-histories n w allowed calls =
+stored-histories n w allowed calls live =
     let after = every-history n w allowed calls in
-    record { form = refl; loads = reads-back _ (after .valid); after = after }
+    record { form = refl; loads = reads-back _ (after .valid) live; after = after }

@@ -1,4 +1,4 @@
--- The stored form of a book.
+-- The stored form of a book, which has no pending record: store refuses one that has.
 use Prim.Native.Nat.{ℕ, zero, suc, _+_, _*_, _/_}
 use mathlib.Core.List.{List, [], _∷_, _++_}
 use lib.ListN.{length, take, drop}
@@ -6,7 +6,7 @@ use Rattle.ring.specs.declared.fates.Fate.the-variants.{Served}
 use Rattle.ring.specs.Fates.{fateNumber}
 use Rattle.book.specs.declared.circuits.Circuit.{Circuit}
 use Rattle.book.specs.declared.books.Book.{Book}
-use Rattle.book.specs.Books.{liveOf}
+use Rattle.book.specs.Books.{recordsOf}
 use Rattle.stored.specs.Blocks.{word, blockOf}
 
 -- "records of 8 bytes: serial, a, b, fate number"
@@ -20,11 +20,11 @@ recordsBytes (c ∷ cs) = recordBytes c ++ recordsBytes cs
 
 -- "Block 0 holds n, w, grants so far and live count, then zeros."
 abbrev pub headerBytes : Book → List ℕ
-headerBytes b = word (b .n) ++ (word (b .w) ++ (word (b .grants) ++ word (length (liveOf b))))
+headerBytes b = word (b .n) ++ (word (b .w) ++ (word (b .grants) ++ word (length (recordsOf b))))
 
 -- the circuits of the k-th later block: "up to 63 records", "by rising serial, filled in order"
 abbrev pub circuitsOf : Book → ℕ → List Circuit
-circuitsOf b k = take 63 (drop (63 * k) (liveOf b))
+circuitsOf b k = take 63 (drop (63 * k) (recordsOf b))
 
 -- what a block holds before the zeros
 abbrev pub contents : Book → ℕ → List ℕ
@@ -46,4 +46,4 @@ storedLength live = 512 * blockCount live
 
 -- "The stored form"
 unfoldable pub storedForm : Book → List ℕ
-storedForm b = blocks b (blockCount (length (liveOf b)))
+storedForm b = blocks b (blockCount (length (recordsOf b)))

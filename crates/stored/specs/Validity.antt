@@ -7,7 +7,7 @@ use lib.ListN.{length, take}
 use Rattle.book.specs.declared.circuits.Circuit.{Circuit}
 use Rattle.book.specs.declared.books.Book.{Book}
 use Rattle.book.specs.Circuits.{circuit, endsOf}
-use Rattle.book.specs.Books.{liveOf}
+use Rattle.book.specs.Books.{recordsOf}
 use Rattle.book.specs.Grants.{heldOnWay}
 
 -- "a limit above": n from 3 to 256, w from 1 to 128
@@ -33,11 +33,11 @@ abbrev pub lastSerial : List Circuit → ℕ → ℕ
 lastSerial cs zero = 0
 lastSerial cs (suc i) = circuit cs i .serial
 
--- each of the first i live circuits may follow those before it
+-- each of the first i records may follow those before it
 abbrev pub circuitsFit : Book → ℕ → Bool
 circuitsFit b zero = true
-circuitsFit b (suc i) = circuitsFit b i && mayFollow b (take i (liveOf b)) (lastSerial (liveOf b) i) (circuit (liveOf b) i)
+circuitsFit b (suc i) = circuitsFit b i && mayFollow b (take i (recordsOf b)) (lastSerial (recordsOf b) i) (circuit (recordsOf b) i)
 
 -- all of it
 unfoldable pub bookFits : Book → Bool
-bookFits b = ringFits (b .n) (b .w) && circuitsFit b (length (liveOf b))
+bookFits b = ringFits (b .n) (b .w) && circuitsFit b (length (recordsOf b))

@@ -2,10 +2,10 @@
 use super::lengths::stored_length;
 use super::readers::blocks_right;
 use super::readers::book_in;
-use super::stores::store;
+use super::stores::write_form;
 use super::validity::book_fits;
 use book::Book;
-use book::books::live_count;
+use book::books::record_count;
 use ring::Refusal;
 use ring::buffers::same_bytes;
 use ring::flags::both;
@@ -30,13 +30,13 @@ pub struct Loaded {
     pub book: Book,
 }
 
-// Whether the bytes are the stored form of the book. The copy has room for every stored form, so the answer of store is its length.
+// Whether the bytes are the stored form of the book. The copy has room for every stored form, so the answer is its length.
 fn is_form(bytes: &[u8], book: Book) -> bool
     ensures { λ r. ⌜ r ≡ sameBytes (now (bytes .entry)) (storedForm book) ⌝ }
 {
     let mut copy = [0u8; 5120];
-    let answer = store(book, &mut copy);
-    let length = stored_length(live_count(book));
+    let answer = write_form(book, &mut copy);
+    let length = stored_length(record_count(book));
     same_bytes(bytes, &copy[0..length])
 }
 

@@ -4,7 +4,8 @@ use super::stores::block_share;
 use super::words::word_at;
 use book::Book;
 use book::Circuit;
-use book::books::live_count;
+use book::books::record_count;
+use book::circuits::RecordState;
 use ring::Fate;
 use ring::fates::fate_of;
 use ring::flags::both;
@@ -13,7 +14,7 @@ use ring::numbers::wide;
 ghost use mathlib.Core.Path.{_≡_};
 ghost use Prim.Native.Nat.{_+_, _-_, _/_, _%_, _<_, _≤_, min};
 ghost use lib.ListN.{length};
-ghost use Rattle.book.specs.Books.{liveOf};
+ghost use Rattle.book.specs.Books.{recordsOf};
 ghost use Rattle.stored.specs.Reading.{blocksRight, circuitAt, recordsIn, bookIn};
 ghost use Rattle.stored.specs.Internal.Handing.{extended, ReadRoom};
 
@@ -49,6 +50,7 @@ fn circuit_at(block: &[u8], at: usize) -> Circuit
             a: a,
             b: b,
             way: way,
+            state: RecordState::Live,
             colour: colour,
         },
         Fate::Blocked => Circuit::vacant(),
@@ -58,16 +60,16 @@ fn circuit_at(block: &[u8], at: usize) -> Circuit
 // The book with the circuits of one block more.
 fn read_block(block: &[u8], book: Book, live: usize) -> Book
     requires { ⌜ ReadRoom (now block) book live ⌝ }
-    ensures { λ r. ⌜ r ≡ extended book (recordsIn (now (block .entry)) (min 63 (live - length (liveOf book)))) ⌝ }
+    ensures { λ r. ⌜ r ≡ extended book (recordsIn (now (block .entry)) (min 63 (live - length (recordsOf book)))) ⌝ }
 {
     let mut filled = book;
-    let first = live_count(book);
+    let first = record_count(book);
     let count = block_share(live - first);
     let mut i: usize = 0;
     while i < count {
         let circuit = circuit_at(block, 8 * i);
         filled.places[first + i] = circuit;
-        filled.live = narrow(first + i + 1);
+        filled.records = narrow(first + i + 1);
         i += 1;
     }
     filled

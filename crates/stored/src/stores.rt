@@ -5,7 +5,8 @@ use super::lengths::stored_length;
 use super::words::put_word;
 use book::Book;
 use book::Circuit;
-use book::books::live_count;
+use book::books::has_pending;
+use book::books::record_count;
 use ring::Refusal;
 use ring::Way;
 use ring::fates::way_number;
@@ -19,7 +20,7 @@ ghost use Rattle.ring.specs.Fates.{fateNumber};
 ghost use Rattle.ring.specs.Buffers.{written};
 ghost use Rattle.stored.specs.Blocks.{word, blockOf};
 ghost use Rattle.stored.specs.Forms.{recordBytes, contents};
-ghost use Rattle.stored.specs.Storing.{storeAnswer, afterStore};
+ghost use Rattle.stored.specs.Storing.{formAnswer, afterForm, storeAnswer, afterStore};
 ghost use Rattle.stored.specs.Internal.Handing.{RecordBlock};
 
 pub enum StoreAnswer {
@@ -74,7 +75,7 @@ fn write_records(block: &mut [u8], book: Book, number: usize)
 {
     clear(block);
     let first = 63 * (number - 1);
-    let count = block_share(live_count(book) - first);
+    let count = block_share(record_count(book) - first);
     let mut i: usize = 0;
     while i < count {
         let circuit = book.places[first + i];
@@ -84,11 +85,12 @@ fn write_records(block: &mut [u8], book: Book, number: usize)
     seal(block, narrow(number));
 }
 
-// Writes the stored form to the front of a buffer: its length, or refusal 17 with nothing written.
-pub fn store(book: Book, buffer: &mut [u8]) -> StoreAnswer
-    ensures { λ r. ⌜ (r ≡ storeAnswer book (now (buffer .entry))) × (now (buffer .exit) ≡ afterStore book (now (buffer .entry))) ⌝ }
+// Writes the stored form, which has no room for the states of records, to the front of a buffer: its length, or refusal 17 with nothing
+// written.
+pub fn write_form(book: Book, buffer: &mut [u8]) -> StoreAnswer
+    ensures { λ r. ⌜ (r ≡ formAnswer book (now (buffer .entry))) × (now (buffer .exit) ≡ afterForm book (now (buffer .entry))) ⌝ }
 {
-    let live = live_count(book);
+    let live = record_count(book);
     let length = stored_length(live);
     if buffer.len() < length {
         return StoreAnswer::Refused(Refusal::BufferShort);
@@ -108,4 +110,14 @@ pub fn store(book: Book, buffer: &mut [u8]) -> StoreAnswer
         block += 1;
     }
     StoreAnswer::Stored(narrow(length))
+}
+
+// Writes the stored form of a book without pending records: its length, or refusal 25 or 17 with nothing written.
+pub fn store(book: Book, buffer: &mut [u8]) -> StoreAnswer
+    ensures { λ r. ⌜ (r ≡ storeAnswer book (now (buffer .entry))) × (now (buffer .exit) ≡ afterStore book (now (buffer .entry))) ⌝ }
+{
+    if has_pending(book) {
+        return StoreAnswer::Refused(Refusal::PendingRecord);
+    }
+    write_form(book, buffer)
 }

@@ -1,7 +1,7 @@
 // The tests for a valid book.
 use book::Book;
 use book::Circuit;
-use book::books::live_count;
+use book::books::record_count;
 use book::circuits::ends_of;
 use links::hold;
 use ring::Ring;
@@ -10,7 +10,7 @@ ghost use mathlib.Core.Path.{_≡_};
 ghost use mathlib.Core.Bool.{true, _&&_};
 ghost use Prim.Native.Nat.{_≤_};
 ghost use lib.ListN.{length};
-ghost use Rattle.book.specs.Books.{liveOf};
+ghost use Rattle.book.specs.Books.{recordsOf};
 ghost use Rattle.links.specs.Links.{LinkSets};
 ghost use Rattle.stored.specs.Validity.{ringFits, circuitFits, serialFits, circuitsFit, bookFits};
 ghost use Rattle.stored.specs.Internal.Following.{NextHolds};
@@ -64,9 +64,9 @@ fn may_follow(
 // Whether each live circuit may follow those before it. `may_follow` is handed numbers: the book would be copied for each circuit.
 fn circuits_fit(book: Book) -> bool
     requires { ⌜ ringFits (book .n) (book .w) ≡ true ⌝ }
-    ensures { λ r. ⌜ r ≡ circuitsFit book (length (liveOf book)) ⌝ }
+    ensures { λ r. ⌜ r ≡ circuitsFit book (length (recordsOf book)) ⌝ }
 {
-    let live = live_count(book);
+    let live = record_count(book);
     let none = [0u64; 4];
     let mut held = [none; 128];
     let mut last: u16 = 0;

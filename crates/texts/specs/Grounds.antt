@@ -6,7 +6,7 @@ use Rattle.ring.specs.declared.refusals.Refusal.the-variants.{NodeCount, Colour
 use Rattle.ring.specs.declared.refusals.Refusal.the-variants.{TableShort, FateNumber, Conflict, CircuitEnd, CircuitEndsEqual, WayNumber}
 use Rattle.ring.specs.declared.refusals.Refusal.the-variants.{ColourNumber, ColourHeld, BookFull, SerialsUsedUp, SerialNeverGiven}
 use Rattle.ring.specs.declared.refusals.Refusal.the-variants.{SerialRemoved, LinkNumber, BufferShort, StoredLength, BlockCheck, StoredForm}
-use Rattle.ring.specs.declared.refusals.Refusal.the-variants.{TextForm, LineCount}
+use Rattle.ring.specs.declared.refusals.Refusal.the-variants.{TextForm, LineCount, SerialLive, SerialConfirmed, PendingRecord}
 use Rattle.texts.specs.Bytes.{bytes}
 
 -- the ground's words, to the end of the line
@@ -24,7 +24,7 @@ groundOf CircuitEndsEqual = bytes "equal ends\n"
 groundOf WayNumber = bytes "way not 0 (plain) or 1 (seam)\n"
 groundOf ColourNumber = bytes "colour w or more\n"
 groundOf ColourHeld = bytes "that colour is held on a link of the way\n"
-groundOf BookFull = bytes "512 circuits are live, and the book has no other place\n"
+groundOf BookFull = bytes "512 circuits are live or pending, and the book has no other place\n"
 groundOf SerialsUsedUp = bytes "serial 65,535 has been given\n"
 groundOf SerialNeverGiven = bytes "serial 0 or never given\n"
 groundOf SerialRemoved = bytes "removed\n"
@@ -37,3 +37,6 @@ groundOf StoredForm =
     ++ bytes "a limit, the rising serials from 1 up to the grants so far, or feasibility\n"
 groundOf TextForm = bytes "more than 8,192 bytes, or a text not of the stated form\n"
 groundOf LineCount = bytes "no line or more than 16\n"
+groundOf SerialLive = bytes "the circuit is live\n"
+groundOf SerialConfirmed = bytes "already confirmed\n"
+groundOf PendingRecord = bytes "a book with a pending record cannot be stored\n"

@@ -9,7 +9,7 @@ ghost use Rattle.texts.specs.Grounds.{groundOf};
 ghost use Rattle.texts.specs.Internal.Writing.{Wrote};
 
 // The lines of the grounds, in the order of their numbers from 1.
-const GROUNDS: [u8; 766] = *b"n not 3 to 256\n\
+const GROUNDS: [u8; 861] = *b"n not 3 to 256\n\
 w not 1 to 128\n\
 more than 512 requests, or an odd number of ends\n\
 an end is n or more\n\
@@ -20,7 +20,7 @@ two requests of one colour share a link\n\
 way not 0 (plain) or 1 (seam)\n\
 colour w or more\n\
 that colour is held on a link of the way\n\
-512 circuits are live, and the book has no other place\n\
+512 circuits are live or pending, and the book has no other place\n\
 serial 65,535 has been given\n\
 serial 0 or never given\n\
 removed\n\
@@ -30,10 +30,13 @@ length 0, not a multiple of 512, or above 5,120\n\
 a wrong block number or check\n\
 a record with fate number 0, or anything else that breaks the stored form, a limit, the rising serials from 1 up to the grants so far, or feasibility\n\
 more than 8,192 bytes, or a text not of the stated form\n\
-no line or more than 16\n";
+no line or more than 16\n\
+the circuit is live\n\
+already confirmed\n\
+a book with a pending record cannot be stored\n";
 
 // The position behind the line of each ground.
-const ENDS: [u16; 23] = [
+const ENDS: [u16; 26] = [
     0,
     15,
     30,
@@ -46,17 +49,20 @@ const ENDS: [u16; 23] = [
     238,
     255,
     296,
-    351,
-    380,
-    404,
-    412,
-    427,
-    458,
-    506,
-    536,
-    686,
-    742,
-    766,
+    362,
+    391,
+    415,
+    423,
+    438,
+    469,
+    517,
+    547,
+    697,
+    753,
+    777,
+    797,
+    815,
+    861,
 ];
 
 // A ground in words, to the end of its line.

@@ -68,7 +68,7 @@ pub fn desk_of(live: u16) -> NaiveDesk {
     NaiveDesk(Some(book))
 }
 
-/// A book that is opened; forms that get longer, shorter and keep their length; refusals and questions between; the longest form.
+/// A book that is opened; forms that get longer and keep their length; refusals and questions between; the longest form.
 pub fn stories() -> [Story; 4] {
     [
         Story::new(
@@ -82,13 +82,13 @@ pub fn stories() -> [Story; 4] {
                 "grant 0 9 0 9",
                 "show 64",
                 "remove 7",
-                "remove 7",
-                "remove 8",
+                "confirm 7",
+                "grant 9 18 0 9",
             ],
         ),
         Story::new(
-            desk_of(512),
-            &["grant 0 1 0 15", "remove 512", "grant 0 1 0 15"],
+            desk_of(510),
+            &["grant 0 1 0 15", "grant 1 2 0 15", "grant 2 3 0 15"],
         ),
     ]
 }

@@ -1,20 +1,24 @@
 //! A naive desk: what the program is to answer, and what its file is to hold.
+use std::collections::BTreeMap;
+
 use ring_planner::{Circuit, Refusal, Way};
 
 use crate::reference::books::{NaiveBook, Previewed};
 use crate::reference::draws::{draw, draw_bundle, draw_grant, draw_serial};
-use crate::reference::stored::{encode, load};
+use crate::reference::stored::{change, encode, load};
 use crate::reference::Random;
 
 /// The commands, with how many numbers each has; `preview` has four for each line.
-const COMMANDS: [(&str, usize); 8] = [
+const COMMANDS: [(&str, usize); 10] = [
     ("open", 2),
     ("grant", 4),
     ("remove", 1),
+    ("confirm", 1),
     ("show", 1),
     ("holder", 2),
     ("count", 0),
     ("list", 0),
+    ("pending", 0),
     ("help", 0),
 ];
 
@@ -23,11 +27,13 @@ pub const HELP: &str = "\
 open N W              begins a book for a ring of N nodes and W colours
 grant X Y WAY COLOUR  enters a circuit between nodes X and Y, WAY 0 plain or 1 seam, and gives its order a serial
 preview LINE, ..      the serials that up to 16 grants would get, each LINE as X Y WAY COLOUR
-remove SERIAL         removes an order
+remove SERIAL         removes an order; its colour stays held until the pull is confirmed
+confirm SERIAL        confirms that a removed order's patch is pulled, and frees its colour
 show SERIAL           the circuit of an order: its ends, P (plain) or S (seam), its colour
 holder LINK COLOUR    the order that has the colour on the link
 count                 how many orders are live, and how many were granted so far
 list                  every live order with its circuit
+pending               every removed order whose pull is not yet confirmed, with its circuit
 help                  these lines
 ";
 
@@ -153,13 +159,19 @@ impl NaiveDesk {
     }
 }
 
-/// A circuit as `show` and `list` print it.
+/// A circuit as it is printed.
 fn shown(c: &Circuit) -> String {
     let way = match c.way {
         Way::Plain => 'P',
         Way::Seam => 'S',
     };
     format!("{} {} {way} {}\n", c.a, c.b, c.colour)
+}
+
+/// Orders as `list` and `pending` print them.
+fn orders(of: &BTreeMap<u16, Circuit>) -> String {
+    let order = |(serial, c): (&u16, &Circuit)| format!("order {serial} {}", shown(c));
+    of.iter().map(order).collect()
 }
 
 /// A preview as it is printed.
@@ -186,14 +198,16 @@ fn answer_on(book: &mut NaiveBook, command: &str, numbers: &[u16]) -> Result<Str
             None => "free\n".to_string(),
         },
         ("remove", &[serial]) => {
-            book.remove(serial)?;
+            change(book, |book| book.remove(serial))?;
             format!("removed {serial}\n")
         }
-        ("show", &[serial]) => format!("circuit {}", shown(&book.show(serial)?)),
-        ("list", []) => {
-            let order = |(serial, c): (&u16, &Circuit)| format!("order {serial} {}", shown(c));
-            book.live.iter().map(order).collect()
+        ("confirm", &[serial]) => {
+            change(book, |book| book.confirm(serial))?;
+            format!("confirmed {serial}\n")
         }
+        ("show", &[serial]) => format!("circuit {}", shown(&book.show(serial)?)),
+        ("list", []) => orders(&book.live),
+        ("pending", []) => orders(&book.pending),
         _ => format!("live {} grants {}\n", book.live.len(), book.grants),
     })
 }
@@ -212,17 +226,21 @@ pub fn draw_line(random: &mut Random, desk: &NaiveDesk) -> String {
     let Some(book) = &desk.0 else {
         return format!("open {} {}\n", draw(random, 256), draw(random, 128));
     };
-    let serial = draw_serial(random, book);
+    let serial = match random.below(4) {
+        0 => draw(random, book.grants.saturating_add(2)),
+        _ => draw_serial(random, book),
+    };
     let line = match random.below(16) {
         0 => format!("open {} {}", draw(random, 256), draw(random, 128)),
-        1 => ["count", "list", "help", ""][random.below(4) as usize].to_string(),
+        1 => ["count", "list", "pending", "help", ""][random.below(5) as usize].to_string(),
         2 => format!("show  {serial} "),
         3 => format!("holder {} {}", draw(random, book.n), draw(random, book.w)),
         4 => typed(
             &draw_bundle(random, book.n, book.w),
             [",", ", "][random.below(2) as usize],
         ),
-        5..=7 => format!("remove {serial}"),
+        5 => format!("remove {serial}"),
+        6 => format!("confirm {serial}"),
         _ => {
             let ([x, y], way, colour) = draw_grant(random, book.n, book.w);
             format!("grant {x} {y} {way} {colour}")

@@ -1,4 +1,4 @@
-//! A second book: a map from serials to circuits, with the rules' refusals in their order.
+//! A second book: a map from serials to circuits for each state of a record, with the rules' refusals in their order.
 use std::collections::BTreeMap;
 
 use ring_planner::{Circuit, Way};
@@ -8,7 +8,10 @@ pub struct NaiveBook {
     pub n: u16,
     pub w: u16,
     pub grants: u16,
+    /// The orders that were granted and not removed.
     pub live: BTreeMap<u16, Circuit>,
+    /// The orders that were removed and whose pull is not confirmed: they keep their place and hold their colour.
+    pub pending: BTreeMap<u16, Circuit>,
 }
 
 /// What a preview says: the serials, and the line that would be turned down with the number of its refusal.
@@ -41,7 +44,13 @@ impl NaiveBook {
             w,
             grants: 0,
             live: BTreeMap::new(),
+            pending: BTreeMap::new(),
         })
+    }
+
+    /// The records of both states.
+    fn records(&self) -> impl Iterator<Item = (&u16, &Circuit)> {
+        self.live.iter().chain(&self.pending)
     }
 
     pub fn grant(&mut self, [x, y]: [u16; 2], way: u16, colour: u16) -> Result<u16, u16> {
@@ -65,10 +74,10 @@ impl NaiveBook {
             way,
             colour,
         };
-        if self.live.values().any(|c| conflict(self.n, c, &circuit)) {
+        if self.records().any(|(_, c)| conflict(self.n, c, &circuit)) {
             return Err(11);
         }
-        if self.live.len() == 512 {
+        if self.records().count() == 512 {
             return Err(12);
         }
         if self.grants == 65535 {
@@ -103,9 +112,24 @@ impl NaiveBook {
     }
 
     pub fn remove(&mut self, serial: u16) -> Result<(), u16> {
-        self.show(serial)?;
+        let circuit = self.show(serial)?;
         self.live.remove(&serial);
+        self.pending.insert(serial, circuit);
         Ok(())
+    }
+
+    pub fn confirm(&mut self, serial: u16) -> Result<(), u16> {
+        match self.show(serial) {
+            Ok(_) => Err(23),
+            Err(15) => self.pending.remove(&serial).map(|_| ()).ok_or(24),
+            Err(number) => Err(number),
+        }
+    }
+
+    /// A removal and its confirmation: the order has no record any more.
+    pub fn lapse(&mut self, serial: u16) -> Result<(), u16> {
+        self.remove(serial)?;
+        self.confirm(serial)
     }
 
     pub fn holder(&self, link: u16, colour: u16) -> Result<Option<u16>, u16> {
@@ -117,8 +141,7 @@ impl NaiveBook {
         }
         let holds = |c: &Circuit| c.colour == colour && uses(c, link);
         Ok(self
-            .live
-            .iter()
+            .records()
             .find(|(_, c)| holds(c))
             .map(|(&serial, _)| serial))
     }

@@ -1,4 +1,8 @@
 //! Arguments for the calls on a book, now and then out of range.
+use std::collections::BTreeMap;
+
+use ring_planner::Circuit;
+
 use super::books::NaiveBook;
 use super::Random;
 
@@ -47,11 +51,21 @@ pub fn draw_bundle(random: &mut Random, n: u16, w: u16) -> Vec<[u16; 4]> {
 
 /// A serial, most often one that is live.
 pub fn draw_serial(random: &mut Random, naive: &NaiveBook) -> u16 {
+    draw_order(random, naive.grants, &naive.live)
+}
+
+/// A serial, most often one that is pending.
+pub fn draw_pending(random: &mut Random, naive: &NaiveBook) -> u16 {
+    draw_order(random, naive.grants, &naive.pending)
+}
+
+/// A serial, most often one of these orders.
+fn draw_order(random: &mut Random, grants: u16, orders: &BTreeMap<u16, Circuit>) -> u16 {
     match random.below(8) {
-        0 => draw(random, naive.grants.saturating_add(2)),
+        0 => draw(random, grants.saturating_add(2)),
         _ => {
-            let place = random.below(naive.live.len().max(1) as u64) as usize;
-            naive.live.keys().nth(place).copied().unwrap_or(1)
+            let place = random.below(orders.len().max(1) as u64) as usize;
+            orders.keys().nth(place).copied().unwrap_or(1)
         }
     }
 }

@@ -7,6 +7,7 @@ pub mod lists;
 pub mod matchings;
 pub mod pairs;
 pub mod stored;
+pub mod tallies;
 
 /// A deterministic generator of test data.
 pub struct Random(u64);

@@ -39,8 +39,9 @@ fn block(number: usize, fields: &[u16]) -> Vec<u8> {
     bytes
 }
 
-/// The stored form of a book.
+/// The stored form of a book, which has no pending record.
 pub fn encode(book: &NaiveBook) -> Vec<u8> {
+    assert!(book.pending.is_empty(), "a pending record has no form");
     let header = [book.n, book.w, book.grants, book.live.len() as u16];
     let records: Vec<[u16; 4]> = book
         .live
@@ -52,6 +53,20 @@ pub fn encode(book: &NaiveBook) -> Vec<u8> {
         bytes.extend(block(i + 1, &group.concat()));
     }
     bytes
+}
+
+/// A change of a book that lies in its stored form: with a pending record it could not be stored again, and stays as it was.
+pub fn change<T>(
+    book: &mut NaiveBook,
+    act: impl FnOnce(&mut NaiveBook) -> Result<T, u16>,
+) -> Result<T, u16> {
+    let mut changed = book.clone();
+    let answer = act(&mut changed)?;
+    if !changed.pending.is_empty() {
+        return Err(25);
+    }
+    *book = changed;
+    Ok(answer)
 }
 
 /// The book of a stored form, or the number of the refusal.

@@ -1,4 +1,4 @@
--- Ground 11 by the ends of the live circuits, and the verdict on a grant with it: what the code computes.
+-- Ground 11 by the ends of the records, and the verdict on a grant with it: what the code computes.
 use Prim.Native.Nat.{ℕ, _<_}
 use mathlib.Core.Path.{_≡_}
 use mathlib.Core.Bool.{Bool, _&&_}
@@ -14,7 +14,7 @@ use Rattle.ring.specs.Internal.Sharing.{sharing}
 use Rattle.book.specs.declared.circuits.Circuit.{Circuit}
 use Rattle.book.specs.declared.books.Book.{Book}
 use Rattle.book.specs.Circuits.{someCircuit, endsOf}
-use Rattle.book.specs.Books.{liveOf, Valid}
+use Rattle.book.specs.Books.{recordsOf, Valid}
 use Rattle.book.specs.Grants.{wayOf, colourHeld, argumentVerdict, roomVerdict}
 
 -- the circuit is of that colour, and its way shares a link with the way of the request
@@ -28,11 +28,11 @@ conflictIn cs way r colour = someCircuit cs (λ c. conflicts c way r colour)
 -- the law that it is ground 11, in a valid book and for a request on its nodes
 abbrev pub ConflictMeans : Type 0
 ConflictMeans = (b : Book) → Valid b → (way : Way) (r : Request) (colour : ℕ) → r .a < r .b → r .b < b .n
-    → conflictIn (liveOf b) way r colour ≡ colourHeld b way r colour
+    → conflictIn (recordsOf b) way r colour ≡ colourHeld b way r colour
 
 -- `grantVerdict` with ground 11 by ends
 unfoldable pub verdictByEnds : Book → ℕ → ℕ → ℕ → ℕ → Verdict
 verdictByEnds b x y way colour =
     orElse (argumentVerdict (b .n) (b .w) x y way colour)
-    (orElse (refuseIf (conflictIn (liveOf b) (wayOf way) (requestOf x y) colour) ColourHeld)
-    (roomVerdict (b .live) (b .grants)))
+    (orElse (refuseIf (conflictIn (recordsOf b) (wayOf way) (requestOf x y) colour) ColourHeld)
+    (roomVerdict (b .records) (b .grants)))

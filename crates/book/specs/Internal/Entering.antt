@@ -13,5 +13,5 @@ nextSerial grants = cond (ltb grants 65535) (grants + 1) 65535
 -- the book with one circuit more, if there is a place for it
 unfoldable pub entered : Book → Circuit → Book
 entered b c =
-    cond (leb 512 (b .live)) b
-    (record { n = b .n; w = b .w; grants = nextSerial (b .grants); live = b .live + 1; places = set (b .places) (b .live) c })
+    cond (leb 512 (b .records)) b
+    (record { n = b .n; w = b .w; grants = nextSerial (b .grants); records = b .records + 1; places = set (b .places) (b .records) c })

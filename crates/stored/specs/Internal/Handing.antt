@@ -6,7 +6,7 @@ use lib.ListN.{length}
 use Rattle.ring.specs.Buffers.{written}
 use Rattle.book.specs.declared.circuits.Circuit.{Circuit}
 use Rattle.book.specs.declared.books.Book.{Book}
-use Rattle.book.specs.Books.{liveOf, bookOf}
+use Rattle.book.specs.Books.{recordsOf, bookOf}
 use Rattle.stored.specs.Blocks.{word, checkOf}
 
 -- 512 bytes with their block number and their check
@@ -18,15 +18,15 @@ pub record RecordBlock (b : Book) (number : ℕ) (block : List ℕ) : Type 0 whe
   pub size : length block ≡ 512
   pub from : 1 ≤ number
   pub to : number ≤ 9
-  pub filled : 63 * number ≤ length (liveOf b) + 63
+  pub filled : 63 * number ≤ length (recordsOf b) + 63
 
--- a book with further circuits behind the live ones
+-- a book with further circuits behind its records
 abbrev pub extended : Book → List Circuit → Book
-extended b cs = bookOf (b .n) (b .w) (b .grants) (liveOf b ++ cs)
+extended b cs = bookOf (b .n) (b .w) (b .grants) (recordsOf b ++ cs)
 
 -- what the reader of a later block is handed: 512 bytes, and a book in its form with room for the circuits that are left
 pub record ReadRoom (block : List ℕ) (b : Book) (live : ℕ) : Type 0 where
   pub size : length block ≡ 512
   pub form : b ≡ extended b []
-  pub some : length (liveOf b) ≤ live
+  pub some : length (recordsOf b) ≤ live
   pub most : live ≤ 512

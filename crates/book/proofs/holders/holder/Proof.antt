@@ -41,8 +41,8 @@ returns c = simp (
 enum-told : tie.Need-enum-told
 enum-told c = search needs
 
-live-count-requires : tie.Need-live-count-requires
-live-count-requires c κs = search needs
+record-count-requires : tie.Need-record-count-requires
+record-count-requires c κs = search needs
 
 holder-search-requires : tie.Need-holder-search-requires
 holder-search-requires c κs = search needs
@@ -62,7 +62,7 @@ returns-2 c =
     (allowed (c .before .before .before .before .before .before .before)
     (c .before .before .before .before .before .enum-told .given .1))
     (search .holder-search .ensures
-    ∙ ap (λ (m : ℕ). holderPlace 0 (take m (s .t1 .places)) (s .link) (s .colour)) (count .live-count .ensures .0)) (omega arith)
+    ∙ ap (λ (m : ℕ). holderPlace 0 (take m (s .t1 .places)) (s .link) (s .colour)) (count .record-count .ensures .0)) (omega arith)
 
 returns-3 : tie.Need-returns-3
 returns-3 c =
@@ -72,7 +72,7 @@ returns-3 c =
     answer-free (s .t1) (s .link) (s .colour) (search .holder-search .result)
     (allowed (c .before .before .before .before .before .before) (c .before .before .before .before .enum-told .given .1))
     (search .holder-search .ensures
-    ∙ ap (λ (m : ℕ). holderPlace 0 (take m (s .t1 .places)) (s .link) (s .colour)) (count .live-count .ensures .0)) (omega arith)
+    ∙ ap (λ (m : ℕ). holderPlace 0 (take m (s .t1 .places)) (s .link) (s .colour)) (count .record-count .ensures .0)) (omega arith)
 
 pub holder-spec : {M : Type 1} → statement M
 holder-spec =
@@ -84,7 +84,7 @@ holder-spec =
     enum-known-verdict
     returns
     enum-told
-    live-count-requires
+    record-count-requires
     holder-search-requires
     mul-circuit
     element-copy-out-circuit

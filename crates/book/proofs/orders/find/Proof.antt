@@ -4,20 +4,20 @@ use mathlib.Core.Path.{_≡_, refl, sym, _∙_}
 use native.Mathlib.Omega.{arith}
 use borrow.Author.Needs.{needs}
 use lib.ListN.{drop}
-use Rattle.book.specs.Books.{liveOf}
+use Rattle.book.specs.Books.{recordsOf}
 use Rattle.book.specs.Orders.{lookupIn}
 use Rattle.book.proofs.Lookups.{lookup-found, lookup-passed, lookup-ended}
 use Rattle.book.proofs.orders.find.Statement.{statement}
 use Rattle.book.proofs.orders.find.Tie as tie
 
 abbrev Inv-loop : tie.InvT-loop
-Inv-loop serial book live i₀ i = (i ≤ live) × (lookupIn 0 (liveOf book) serial ≡ lookupIn i (drop i (liveOf book)) serial)
+Inv-loop serial book records i₀ i = (i ≤ records) × (lookupIn 0 (recordsOf book) serial ≡ lookupIn i (drop i (recordsOf book)) serial)
 
 abbrev μ-loop : tie.MeasureT-loop
-μ-loop serial book live i₀ i = live - i
+μ-loop serial book records i₀ i = records - i
 
-live-count-requires : tie.Need-live-count-requires Inv-loop μ-loop
-live-count-requires c κs = search needs
+record-count-requires : tie.Need-record-count-requires Inv-loop μ-loop
+record-count-requires c κs = search needs
 
 loop-holds : tie.Need-loop-holds Inv-loop μ-loop
 loop-holds c = (omega arith, refl)
@@ -55,7 +55,7 @@ find-spec =
     (tie.spec
     Inv-loop
     μ-loop
-    live-count-requires
+    record-count-requires
     loop-holds
     mul-circuit
     element-copy-out-circuit

@@ -1,7 +1,7 @@
 use mathlib.Core.Path.{sym, _∙_, ap}
 use mathlib.Core.Bool.{Bool, cond}
 use Rattle.book.specs.declared.orders.Lookup.the-variants.{Missing}
-use Rattle.book.specs.Books.{liveOf}
+use Rattle.book.specs.Books.{recordsOf}
 use Rattle.book.specs.Orders.{lookupIn, lookup}
 use borrow.Author.Needs.{needs}
 use Rattle.book.proofs.orders.look_up.Statement.{statement}
@@ -14,7 +14,7 @@ returns : tie.Need-returns
 unfolding lookup
 returns c =
     let s = c .before .before .args in
-    ap (λ (t : Bool). cond t Missing (lookupIn 0 (liveOf (s .book)) (s .serial))) (sym (c .if1 .taken) ∙ c .before .never-given .ensures)
+    ap (λ (t : Bool). cond t Missing (lookupIn 0 (recordsOf (s .book)) (s .serial))) (sym (c .if1 .taken) ∙ c .before .never-given .ensures)
 
 find-requires : tie.Need-find-requires
 find-requires c κs = search needs
@@ -23,7 +23,7 @@ returns-2 : tie.Need-returns-2
 unfolding lookup
 returns-2 c =
     let s = c .before .before .before .args in
-    c .find .ensures ∙ ap (λ (t : Bool). cond t Missing (lookupIn 0 (liveOf (s .book)) (s .serial))) (sym (c .before .if1 .left)
+    c .find .ensures ∙ ap (λ (t : Bool). cond t Missing (lookupIn 0 (recordsOf (s .book)) (s .serial))) (sym (c .before .if1 .left)
     ∙ c .before .before .never-given .ensures)
 
 pub look-up-spec : {M : Type 1} → statement M

@@ -6,8 +6,8 @@ use borrow.Author.Needs.{needs}
 use Rattle.book.proofs.orders.show.Statement.{statement}
 use Rattle.book.proofs.orders.show.Tie as tie
 
-look-up-requires : tie.Need-look-up-requires
-look-up-requires c κs = search needs
+look-up-live-requires : tie.Need-look-up-live-requires
+look-up-live-requires c κs = search needs
 
 enum-known-circuit : tie.Need-enum-known-circuit
 enum-known-circuit c = search needs
@@ -24,16 +24,16 @@ returns c =
     let s = c .before .before .before .before .args in
     ap Refused (c .missing .ensures)
     ∙ ap (λ (l : Lookup). showFound l (missing (s .book) (s .serial))) (sym (c .before .enum-told .given .1)
-    ∙ c .before .before .before .look-up .ensures)
+    ∙ c .before .before .before .look-up-live .ensures)
 
 returns-2 : tie.Need-returns-2
 unfolding shown
 returns-2 c =
     let s = c .before .before .before .before .args in
     ap (λ (l : Lookup). showFound l (missing (s .book) (s .serial))) (sym (c .before .circuit .given .1)
-    ∙ c .before .before .before .look-up .ensures)
+    ∙ c .before .before .before .look-up-live .ensures)
 
 pub show-spec : {M : Type 1} → statement M
 show-spec =
     tie.close
-    (tie.spec look-up-requires enum-known-circuit enum-told missing-requires returns returns-2)
+    (tie.spec look-up-live-requires enum-known-circuit enum-told missing-requires returns returns-2)

@@ -52,11 +52,23 @@ enum-told-7 c = search needs
 only-requires-7 : tie.Need-only-requires-7
 only-requires-7 c κs = search needs
 
-enum-known-command-2 : tie.Need-enum-known-command-2
-enum-known-command-2 c = search needs
+enum-told-8 : tie.Need-enum-told-8
+enum-told-8 c = search needs
 
 only-requires-8 : tie.Need-only-requires-8
 only-requires-8 c κs = search needs
+
+enum-told-9 : tie.Need-enum-told-9
+enum-told-9 c = search needs
+
+only-requires-9 : tie.Need-only-requires-9
+only-requires-9 c κs = search needs
+
+enum-known-command-2 : tie.Need-enum-known-command-2
+enum-known-command-2 c = search needs
+
+only-requires-10 : tie.Need-only-requires-10
+only-requires-10 c κs = search needs
 
 returns : tie.Need-returns
 returns c =
@@ -86,10 +98,16 @@ returns-8 : tie.Need-returns-8
 returns-8 c = c .only7 .ensures ∙ ap (answeredNone (c .before .before .before .args .book)) (sym (c .before .enum-told7 .given .1))
 
 returns-9 : tie.Need-returns-9
-returns-9 c =
+returns-9 c = c .only8 .ensures ∙ ap (answeredNone (c .before .before .before .args .book)) (sym (c .before .enum-told8 .given .1))
+
+returns-10 : tie.Need-returns-10
+returns-10 c = c .only9 .ensures ∙ ap (answeredNone (c .before .before .before .args .book)) (sym (c .before .enum-told9 .given .1))
+
+returns-11 : tie.Need-returns-11
+returns-11 c =
     let command2 = c .before .before in
     let start = command2 .before .before in
-    c .only8 .ensures ∙ ap (answeredNone (start .args .book)) (sym (command2 .command2 .given .1))
+    c .only10 .ensures ∙ ap (answeredNone (start .args .book)) (sym (command2 .command2 .given .1))
 
 pub answer-none-spec : {M : Type 1} → statement M
 answer-none-spec =
@@ -111,8 +129,12 @@ answer-none-spec =
     only-requires-6
     enum-told-7
     only-requires-7
-    enum-known-command-2
+    enum-told-8
     only-requires-8
+    enum-told-9
+    only-requires-9
+    enum-known-command-2
+    only-requires-10
     returns
     returns-2
     returns-3
@@ -121,4 +143,6 @@ answer-none-spec =
     returns-6
     returns-7
     returns-8
-    returns-9)
+    returns-9
+    returns-10
+    returns-11)

@@ -52,11 +52,23 @@ enum-told-8 c = search needs
 only-requires-8 : tie.Need-only-requires-8
 only-requires-8 c κs = search needs
 
-enum-known-command : tie.Need-enum-known-command
-enum-known-command c = search needs
+enum-told-9 : tie.Need-enum-told-9
+enum-told-9 c = search needs
 
 only-requires-9 : tie.Need-only-requires-9
 only-requires-9 c κs = search needs
+
+enum-told-10 : tie.Need-enum-told-10
+enum-told-10 c = search needs
+
+only-requires-10 : tie.Need-only-requires-10
+only-requires-10 c κs = search needs
+
+enum-known-command : tie.Need-enum-known-command
+enum-known-command c = search needs
+
+only-requires-11 : tie.Need-only-requires-11
+only-requires-11 c κs = search needs
 
 returns : tie.Need-returns
 returns c =
@@ -108,9 +120,21 @@ returns-8 c =
 
 returns-9 : tie.Need-returns-9
 returns-9 c =
+    let told9 = c .before in
+    let start = told9 .before .before in
+    c .only9 .ensures ∙ ap (turnedDown (start .args .book) (start .args .reply)) (sym (told9 .enum-told9 .given .1))
+
+returns-10 : tie.Need-returns-10
+returns-10 c =
+    let told10 = c .before in
+    let start = told10 .before .before in
+    c .only10 .ensures ∙ ap (turnedDown (start .args .book) (start .args .reply)) (sym (told10 .enum-told10 .given .1))
+
+returns-11 : tie.Need-returns-11
+returns-11 c =
     let command = c .before .before in
     let start = command .before .before in
-    c .only9 .ensures ∙ ap (turnedDown (start .args .book) (start .args .reply)) (sym (command .command .given .1))
+    c .only11 .ensures ∙ ap (turnedDown (start .args .book) (start .args .reply)) (sym (command .command .given .1))
 
 pub turn-down-spec : {M : Type 1} → statement M
 turn-down-spec =
@@ -132,8 +156,12 @@ turn-down-spec =
     only-requires-7
     enum-told-8
     only-requires-8
-    enum-known-command
+    enum-told-9
     only-requires-9
+    enum-told-10
+    only-requires-10
+    enum-known-command
+    only-requires-11
     returns
     returns-2
     returns-3
@@ -142,4 +170,6 @@ turn-down-spec =
     returns-6
     returns-7
     returns-8
-    returns-9)
+    returns-9
+    returns-10
+    returns-11)

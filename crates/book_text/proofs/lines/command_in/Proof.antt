@@ -13,7 +13,10 @@ same-bytes-requires c κs = search needs
 returns : tie.Need-returns
 unfolding commandIn
 returns c =
-    rw (← c .before .same-bytes .ensures, c .if1 .taken)
+    rw (
+      ← c .before .same-bytes .ensures,
+      c .if1 .taken,
+    )
     refl
 
 slice-aggregate-same-bytes-2 : tie.Need-slice-aggregate-same-bytes-2
@@ -26,7 +29,12 @@ returns-2 : tie.Need-returns-2
 unfolding commandIn
 returns-2 c =
     let test1 = c .before .before .before in
-    rw (← test1 .before .same-bytes .ensures, test1 .if1 .left, ← c .before .same-bytes2 .ensures, c .if2 .taken)
+    rw (
+      ← test1 .before .same-bytes .ensures,
+      test1 .if1 .left,
+      ← c .before .same-bytes2 .ensures,
+      c .if2 .taken,
+    )
     refl
 
 slice-aggregate-same-bytes-3 : tie.Need-slice-aggregate-same-bytes-3
@@ -101,13 +109,16 @@ returns-5 c =
     )
     refl
 
-numbers-in-requires : tie.Need-numbers-in-requires
-numbers-in-requires c κs = search needs
+slice-aggregate-same-bytes-6 : tie.Need-slice-aggregate-same-bytes-6
+slice-aggregate-same-bytes-6 c = search needs
+
+same-bytes-requires-6 : tie.Need-same-bytes-requires-6
+same-bytes-requires-6 c κs = search needs
 
 returns-6 : tie.Need-returns-6
 unfolding commandIn
 returns-6 c =
-    let test5 = c .before in
+    let test5 = c .before .before .before in
     let test4 = test5 .before .before .before in
     let test3 = test4 .before .before .before in
     let test2 = test3 .before .before .before in
@@ -123,6 +134,36 @@ returns-6 c =
       test4 .if4 .left,
       ← test5 .before .same-bytes5 .ensures,
       test5 .if5 .left,
+      ← c .before .same-bytes6 .ensures,
+      c .if6 .taken,
+    )
+    refl
+
+numbers-in-requires : tie.Need-numbers-in-requires
+numbers-in-requires c κs = search needs
+
+returns-7 : tie.Need-returns-7
+unfolding commandIn
+returns-7 c =
+    let test6 = c .before in
+    let test5 = test6 .before .before .before in
+    let test4 = test5 .before .before .before in
+    let test3 = test4 .before .before .before in
+    let test2 = test3 .before .before .before in
+    let test1 = test2 .before .before .before in
+    rw (
+      ← test1 .before .same-bytes .ensures,
+      test1 .if1 .left,
+      ← test2 .before .same-bytes2 .ensures,
+      test2 .if2 .left,
+      ← test3 .before .same-bytes3 .ensures,
+      test3 .if3 .left,
+      ← test4 .before .same-bytes4 .ensures,
+      test4 .if4 .left,
+      ← test5 .before .same-bytes5 .ensures,
+      test5 .if5 .left,
+      ← test6 .before .same-bytes6 .ensures,
+      test6 .if6 .left,
     )
     (c .numbers-in .ensures)
 
@@ -145,5 +186,8 @@ command-in-spec =
     slice-aggregate-same-bytes-5
     same-bytes-requires-5
     returns-5
+    slice-aggregate-same-bytes-6
+    same-bytes-requires-6
+    returns-6
     numbers-in-requires
-    returns-6)
+    returns-7)

@@ -5,8 +5,8 @@ use borrow.Author.Needs.{needs}
 use Rattle.book_text.proofs.obeying.put_form.Statement.{statement}
 use Rattle.book_text.proofs.obeying.put_form.Tie as tie
 
-store-requires : tie.Need-store-requires
-store-requires c κs = search needs
+write-form-requires : tie.Need-write-form-requires
+write-form-requires c κs = search needs
 
 enum-known-answer : tie.Need-enum-known-answer
 enum-known-answer c = search needs
@@ -19,10 +19,10 @@ same-length c = search needs
 
 returns : tie.Need-returns
 returns c =
-    let store = c .before .before .before .before in
-    let s = store .before .before .before in
+    let write = c .before .before .before .before in
+    let s = write .before .before .before in
     let places = sym (length-map (s .args .book .places) _) ∙ s .good .1 .0 .1 .1 .1 .1 .1 .1 .0 .1 .0 .1 in
-    form-refused (s .args .book) places (s .args .form .now) (s .pre) (store .store .ensures .0) (c .enum-told .given .1)
+    form-refused (s .args .book) places (s .args .form .now) (s .pre) (write .write-form .ensures .0) (c .enum-told .given .1)
 
 cast-result : tie.Need-cast-result
 cast-result c = search needs
@@ -33,17 +33,17 @@ same-length-2 c = search needs
 returns-2 : tie.Need-returns-2
 returns-2 c =
     let answer = c .before in
-    let store = answer .before .before .before .before in
-    let s = store .before .before .before in
+    let write = answer .before .before .before .before in
+    let s = write .before .before .before in
     let places = sym (length-map (s .args .book .places) _) ∙ s .good .1 .0 .1 .1 .1 .1 .1 .1 .0 .1 .0 .1 in
     form-put (s .args .book) places (s .args .form .now) (s .pre)
-    (store .store .ensures .0) (answer .answer .given .1) (store .store .ensures .1)
+    (write .write-form .ensures .0) (answer .answer .given .1) (write .write-form .ensures .1)
 
 pub put-form-spec : {M : Type 1} → statement M
 put-form-spec =
     tie.close
     (tie.spec
-    store-requires
+    write-form-requires
     enum-known-answer
     enum-told
     same-length

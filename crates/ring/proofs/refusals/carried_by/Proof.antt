@@ -76,6 +76,15 @@ enum-told-19 c = search needs
 enum-told-20 : tie.Need-enum-told-20
 enum-told-20 c = search needs
 
+enum-told-21 : tie.Need-enum-told-21
+enum-told-21 c = search needs
+
+enum-told-22 : tie.Need-enum-told-22
+enum-told-22 c = search needs
+
+enum-told-23 : tie.Need-enum-told-23
+enum-told-23 c = search needs
+
 returns : tie.Need-returns
 returns c = ap carriedBy (sym (c .enum-told .given .1))
 
@@ -148,6 +157,15 @@ returns-23 c = ap carriedBy (sym (c .enum-told19 .given .1))
 returns-24 : tie.Need-returns-24
 returns-24 c = ap carriedBy (sym (c .enum-told20 .given .1))
 
+returns-25 : tie.Need-returns-25
+returns-25 c = ap carriedBy (sym (c .enum-told21 .given .1))
+
+returns-26 : tie.Need-returns-26
+returns-26 c = ap carriedBy (sym (c .enum-told22 .given .1))
+
+returns-27 : tie.Need-returns-27
+returns-27 c = ap carriedBy (sym (c .enum-told23 .given .1))
+
 pub carried-by-spec : {M : Type 1} → statement M
 carried-by-spec =
     tie.close
@@ -176,6 +194,9 @@ carried-by-spec =
     enum-told-18
     enum-told-19
     enum-told-20
+    enum-told-21
+    enum-told-22
+    enum-told-23
     returns
     returns-2
     returns-3
@@ -199,4 +220,7 @@ carried-by-spec =
     returns-21
     returns-22
     returns-23
-    returns-24)
+    returns-24
+    returns-25
+    returns-26
+    returns-27)

@@ -9,14 +9,14 @@ use Rattle.stored.proofs.StoreLaws.{store-front}
 use Rattle.stored.proofs.loads.is_form.Statement.{statement}
 use Rattle.stored.proofs.loads.is_form.Tie as tie
 
-slice-aggregate-store : tie.Need-slice-aggregate-store
-slice-aggregate-store c = search needs
+slice-aggregate-write-form : tie.Need-slice-aggregate-write-form
+slice-aggregate-write-form c = search needs
 
-store-requires : tie.Need-store-requires
-store-requires c κs = search needs
+write-form-requires : tie.Need-write-form-requires
+write-form-requires c κs = search needs
 
-live-count-requires : tie.Need-live-count-requires
-live-count-requires c κs = search needs
+record-count-requires : tie.Need-record-count-requires
+record-count-requires c κs = search needs
 
 stored-length-requires : tie.Need-stored-length-requires
 stored-length-requires c κs = search needs
@@ -41,23 +41,23 @@ returns c =
       arith,
       length-replicate {A = ℕ} 5120 0,
       c .before .before .before .stored-length .ensures,
-      c .before .before .before .before .live-count .ensures .0,
-      c .before .before .before .before .live-count .ensures .1,
+      c .before .before .before .before .record-count .ensures .0,
+      c .before .before .before .before .record-count .ensures .1,
     ) in
     c .same-bytes .ensures
     ∙ ap (sameBytes (s .bytes .now))
-    (store-front (s .book) (c .before .before .before .before .before .before .store .last .1 .0) (replicate 5120 0)
+    (store-front (s .book) (c .before .before .before .before .before .before .write-form .last .1 .0) (replicate 5120 0)
     (c .before .before .before .stored-length .result)
-    (omega (arith, c .before .before .before .stored-length .ensures, c .before .before .before .before .live-count .ensures .0)) room
-    (c .before .before .before .before .before .before .store .ensures .1))
+    (omega (arith, c .before .before .before .stored-length .ensures, c .before .before .before .before .record-count .ensures .0)) room
+    (c .before .before .before .before .before .before .write-form .ensures .1))
 
 pub is-form-spec : {M : Type 1} → statement M
 is-form-spec =
     tie.close
     (tie.spec
-    slice-aggregate-store
-    store-requires
-    live-count-requires
+    slice-aggregate-write-form
+    write-form-requires
+    record-count-requires
     stored-length-requires
     sub-same-bytes
     part-same-bytes-start

@@ -4,11 +4,11 @@ use mathlib.Core.Path.{_≡_, _∙_, ap}
 use native.Mathlib.Omega.{arith}
 use lib.ListN.{length, take, drop}
 use borrow.Author.Needs.{needs}
-use Rattle.book.specs.Books.{liveOf, bookOf}
+use Rattle.book.specs.Books.{recordsOf, bookOf}
 use Rattle.stored.specs.Blocks.{wordAt}
 use Rattle.stored.specs.Reading.{partOf, circuitsIn, bookIn}
 use Rattle.stored.proofs.StoreLaws.{part-length}
-use Rattle.stored.proofs.ReadLaws.{part-is, circuits-few, form-of, live-of, read-next, blank-steps}
+use Rattle.stored.proofs.ReadLaws.{part-is, circuits-few, form-of, records-of, read-next, blank-steps}
 use Rattle.stored.proofs.readers.book_in.Statement.{statement}
 use Rattle.stored.proofs.readers.book_in.Tie as tie
 
@@ -78,8 +78,8 @@ read-block-requires c κs =
     let l = c .before .before .before .before .before .before .before .before .before .before .before .args .bytes .now in
     let t = c .before .before .loop in
     let live = c .before .before .before .before .before .before .before .at-most-all .result in
-    let e : length (liveOf (t .book)) ≡ length (circuitsIn l live (t .block - 1)) =
-    ap length (live-of (t .book) (wordAt (partOf l 0) 0) (wordAt (partOf l 0) 2) (wordAt (partOf l 0) 4)
+    let e : length (recordsOf (t .book)) ≡ length (circuitsIn l live (t .block - 1)) =
+    ap length (records-of (t .book) (wordAt (partOf l 0) 0) (wordAt (partOf l 0) 2) (wordAt (partOf l 0) 4)
     (circuitsIn l live (t .block - 1)) (t .inv .2)) in
     record {
       size = part-length l (t .block * 512)

@@ -4,7 +4,7 @@ use mathlib.Core.Path.{_≡_, _∙_, ap}
 use native.Mathlib.Omega.{arith}
 use lib.ListN.{length}
 use borrow.Author.Needs.{needs}
-use Rattle.book.specs.Books.{liveOf}
+use Rattle.book.specs.Books.{recordsOf}
 use Rattle.stored.specs.Reading.{recordsIn}
 use Rattle.stored.specs.Internal.Handing.{extended}
 use Rattle.stored.proofs.ReadLaws.{extended-next}
@@ -17,8 +17,8 @@ Inv-loop block live filled₀ first count i₀ filled i = (i ≤ count) × (fill
 abbrev μ-loop : tie.MeasureT-loop
 μ-loop block live filled₀ first count i₀ filled i = count - i
 
-live-count-requires : tie.Need-live-count-requires Inv-loop μ-loop
-live-count-requires c κs = search needs
+record-count-requires : tie.Need-record-count-requires Inv-loop μ-loop
+record-count-requires c κs = search needs
 
 sub-block-share : tie.Need-sub-block-share Inv-loop μ-loop
 sub-block-share c = search needs
@@ -63,20 +63,20 @@ loop-again : tie.Need-loop-again Inv-loop μ-loop
 loop-again c =
     let s = c .before .before .before .before .before .before .before in
     let l = c .before .before .before .loop in
-    let h : c .before .before .before .before .before .live-count .result + l .i < 512 =
+    let h : c .before .before .before .before .before .record-count .result + l .i < 512 =
     omega (arith, c .before .before .before .before .block-share .ensures, s .pre .most) in (
       omega arith,
       extended-next (s .args .book) (s .args .block .now) (l .filled)
-          (c .before .before .before .before .before .live-count .result) (l .i) (c .narrow .result) (c .before .circuit-at .result)
-          (l .inv .1) (c .before .before .before .before .before .live-count .ensures .0) h (c .narrow .ensures)
+          (c .before .before .before .before .before .record-count .result) (l .i) (c .narrow .result) (c .before .circuit-at .result)
+          (l .inv .1) (c .before .before .before .before .before .record-count .ensures .0) h (c .narrow .ensures)
           (c .before .circuit-at .ensures),
     )
 
 returns : tie.Need-returns Inv-loop μ-loop
 returns c =
     let s = c .before .before .before .before .before .args in
-    let e : c .before .loop .i ≡ min 63 (s .live - length (liveOf (s .book))) =
-    omega (arith, c .before .before .block-share .ensures, c .before .before .before .live-count .ensures .0) in
+    let e : c .before .loop .i ≡ min 63 (s .live - length (recordsOf (s .book))) =
+    omega (arith, c .before .before .block-share .ensures, c .before .before .before .record-count .ensures .0) in
     c .before .loop .inv .1 ∙ ap (λ (k : ℕ). extended (s .book) (recordsIn (s .block .now) k)) e
 
 pub read-block-spec : {M : Type 1} → statement M
@@ -85,7 +85,7 @@ read-block-spec =
     (tie.spec
     Inv-loop
     μ-loop
-    live-count-requires
+    record-count-requires
     sub-block-share
     block-share-requires
     loop-holds

@@ -1,10 +1,11 @@
 -- The loop's invariant: the block begins with the first i records, and is zero behind them.
-use Prim.Native.Nat.{ℕ, _≤_, _<_, _-_, _*_}
+use Prim.Native.Nat.{ℕ, _+_, _≤_, _<_, _-_, _*_}
 use mathlib.Core.Path.{_≡_, sym, _∙_, ap}
 use native.Mathlib.Omega.{arith}
-use lib.ListN.{length, take, replicate, length-replicate}
+use lib.ListN.{length, getD, take, replicate, length-replicate}
 use borrow.Author.Needs.{needs}
 use Rattle.book.specs.declared.circuits.Circuit.{Circuit}
+use Rattle.book.specs.Circuits.{vacant}
 use Rattle.ring.specs.Buffers.{written}
 use Rattle.stored.specs.Blocks.{blockOf}
 use Rattle.stored.specs.Internal.Handing.{sealed}
@@ -31,8 +32,8 @@ sub-first c = search needs
 mul-first : tie.Need-mul-first Inv-loop μ-loop
 mul-first c = search needs
 
-live-count-requires : tie.Need-live-count-requires Inv-loop μ-loop
-live-count-requires c κs = search needs
+record-count-requires : tie.Need-record-count-requires Inv-loop μ-loop
+record-count-requires c κs = search needs
 
 sub-block-share : tie.Need-sub-block-share Inv-loop μ-loop
 sub-block-share c = search needs
@@ -81,12 +82,15 @@ loop-again c =
       arith,
       share (s .args .t2) k,
       c .before .before .before .before .before .before .before .block-share .ensures,
-      c .before .before .before .before .before .before .before .before .live-count .ensures .0,
+      c .before .before .before .before .before .before .before .before .record-count .ensures .0,
     ) in
     let few : length (circuitsOf (s .args .t2) k) ≤ 63 = share-few (s .args .t2) k in
     let e = c .before .before .put-record .ensures in (
       omega arith,
-      ap length e ∙ written-length (l .loop .block) (8 * l .loop .i) (recordBytes _) (omega arith) ∙ l .loop .inv .1,
+      ap length e
+          ∙ written-length (l .loop .block) (8 * l .loop .i) (recordBytes (getD (s .args .t2 .places) (63 * k + l .loop .i) vacant))
+          (omega arith)
+          ∙ l .loop .inv .1,
       e ∙ ap (λ (x : Circuit). written (l .loop .block) (8 * l .loop .i) (recordBytes x)) (sym (share-at (s .args .t2) k (l .loop .i) h))
           ∙ record-next (circuitsOf (s .args .t2) k) (l .loop .i) (l .loop .block) h few (l .loop .inv .2),
     )
@@ -110,7 +114,7 @@ returns c =
       arith,
       share (s .args .t2) k,
       c .before .before .before .before .before .before .before .block-share .ensures,
-      c .before .before .before .before .before .before .before .before .live-count .ensures .0,
+      c .before .before .before .before .before .before .before .before .record-count .ensures .0,
     ) in
     c .before .before .seal .ensures
     ∙ ap (λ (j : ℕ). sealed j (l .loop .block)) (c .before .before .before .narrow .ensures)
@@ -127,7 +131,7 @@ write-records-spec =
     clear-requires
     sub-first
     mul-first
-    live-count-requires
+    record-count-requires
     sub-block-share
     block-share-requires
     loop-holds

@@ -5,8 +5,8 @@ use native.Mathlib.Omega.{arith}
 use lib.ListN.{length}
 use borrow.Author.Needs.{needs}
 use borrow.Author.Tests.{not-true, not-false}
-use Rattle.book.specs.Books.{liveOf}
-use Rattle.book.proofs.Places.{live-at}
+use Rattle.book.specs.Books.{recordsOf}
+use Rattle.book.proofs.Places.{record-at}
 use Rattle.stored.specs.Validity.{circuitsFit}
 use Rattle.stored.proofs.FitLaws.{ring-within, Walk, walk-start, walk-turn, walk-stop}
 use Rattle.stored.proofs.validity.circuits_fit.Statement.{statement}
@@ -18,8 +18,8 @@ Inv-loop book live held₀ last₀ i₀ held last i = (i ≤ live) × Walk book 
 abbrev μ-loop : tie.MeasureT-loop
 μ-loop book live held₀ last₀ i₀ held last i = live - i
 
-live-count-requires : tie.Need-live-count-requires Inv-loop μ-loop
-live-count-requires c κs = search needs
+record-count-requires : tie.Need-record-count-requires Inv-loop μ-loop
+record-count-requires c κs = search needs
 
 loop-holds : tie.Need-loop-holds Inv-loop μ-loop
 loop-holds c = (omega arith, walk-start _)
@@ -45,8 +45,8 @@ returns c =
     let here = follow .before .before .before .before in
     let s = here .before .before in
     let b = s .args .t1 in
-    let h : here .loop .i < length (liveOf b) = omega (arith, here .before .live-count .ensures .0) in
-    walk-stop b (here .loop .held) _ (here .loop .last) (here .loop .i) _ _ (s .pre) h (here .loop .inv .1) (live-at b (here .loop .i) h)
+    let h : here .loop .i < length (recordsOf b) = omega (arith, here .before .record-count .ensures .0) in
+    walk-stop b (here .loop .held) _ (here .loop .last) (here .loop .i) _ _ (s .pre) h (here .loop .inv .1) (record-at b (here .loop .i) h)
     (follow .may-follow .ensures) (not-true _ (c .if1 .taken))
 
 add-i : tie.Need-add-i Inv-loop μ-loop
@@ -61,16 +61,16 @@ loop-again c =
     let here = follow .before .before .before .before in
     let s = here .before .before in
     let b = s .args .t1 in
-    let h : here .loop .i < length (liveOf b) = omega (arith, here .before .live-count .ensures .0) in (
+    let h : here .loop .i < length (recordsOf b) = omega (arith, here .before .record-count .ensures .0) in (
       omega arith,
       walk-turn b (here .loop .held) _ (here .loop .last) (here .loop .i) _ _ (s .pre) h (here .loop .inv .1)
-          (live-at b (here .loop .i) h) (follow .may-follow .ensures) (not-false _ (c .if1 .left)),
+          (record-at b (here .loop .i) h) (follow .may-follow .ensures) (not-false _ (c .if1 .left)),
     )
 
 returns-2 : tie.Need-returns-2 Inv-loop μ-loop
 returns-2 c =
     let b = c .before .before .before .args .t1 in
-    let all : c .before .loop .i ≡ length (liveOf b) = omega (arith, c .before .before .live-count .ensures .0) in
+    let all : c .before .loop .i ≡ length (recordsOf b) = omega (arith, c .before .before .record-count .ensures .0) in
     sym (sym (ap (circuitsFit b) all) ∙ c .before .loop .inv .1 .fits)
 
 pub circuits-fit-spec : {M : Type 1} → statement M
@@ -79,7 +79,7 @@ circuits-fit-spec =
     (tie.spec
     Inv-loop
     μ-loop
-    live-count-requires
+    record-count-requires
     loop-holds
     mul-circuit
     element-copy-out-circuit

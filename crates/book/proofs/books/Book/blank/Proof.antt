@@ -10,7 +10,7 @@ vacant-requires c κs = search needs
 
 returns : tie.Need-returns
 returns c = ap (λ (v : Circuit).
-    record { n = c .before .args .n; w = c .before .args .w; grants = c .before .args .grants; live = 0; places = replicate 512 v })
+    record { n = c .before .args .n; w = c .before .args .w; grants = c .before .args .grants; records = 0; places = replicate 512 v })
     (c .vacant .ensures)
 
 pub blank-spec : {M : Type 1} → statement M

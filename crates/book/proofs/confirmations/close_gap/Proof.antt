@@ -4,8 +4,8 @@ use mathlib.Core.Path.{_≡_, _∙_, ap}
 use native.Mathlib.Omega.{arith}
 use borrow.Author.Needs.{needs}
 use Rattle.book.proofs.Shifts.{shifted, shifted-none, shifted-next, shifted-all}
-use Rattle.book.proofs.removals.close_gap.Statement.{statement}
-use Rattle.book.proofs.removals.close_gap.Tie as tie
+use Rattle.book.proofs.confirmations.close_gap.Statement.{statement}
+use Rattle.book.proofs.confirmations.close_gap.Tie as tie
 
 abbrev Inv-loop : tie.InvT-loop
 Inv-loop place changed₀ last i₀ changed i = (place ≤ i) × (i ≤ last) × (changed ≡ shifted changed₀ place i)
@@ -13,8 +13,8 @@ Inv-loop place changed₀ last i₀ changed i = (place ≤ i) × (i ≤ last) ×
 abbrev μ-loop : tie.MeasureT-loop
 μ-loop place changed₀ last i₀ changed i = last - i
 
-live-count-requires : tie.Need-live-count-requires Inv-loop μ-loop
-live-count-requires c κs = search needs
+record-count-requires : tie.Need-record-count-requires Inv-loop μ-loop
+record-count-requires c κs = search needs
 
 sub-last : tie.Need-sub-last Inv-loop μ-loop
 sub-last c = omega arith
@@ -69,7 +69,7 @@ returns : tie.Need-returns Inv-loop μ-loop
 returns c =
     let l = c .before .before .before in
     let s = l .before .before in
-    let last = l .before .live-count .result - 1 in
+    let last = l .before .record-count .result - 1 in
     let e : l .loop .i ≡ last = omega arith in
     shifted-all (s .args .book) (s .args .place) (omega arith) (l .loop .changed) last (c .narrow .result) (c .before .vacant .result)
     (l .loop .inv .2 ∙ ap (shifted (s .args .book) (s .args .place)) e) (omega arith) (c .narrow .ensures) (c .before .vacant .ensures)
@@ -80,7 +80,7 @@ close-gap-spec =
     (tie.spec
     Inv-loop
     μ-loop
-    live-count-requires
+    record-count-requires
     sub-last
     loop-holds
     add-circuit
