@@ -123,7 +123,7 @@ static Bytes book_of(size_t circuits) {
     size_t length = values[0];
     for (size_t i = 0; i < circuits; i++) {
         uint16_t a = uint16_t(i / 128 * 64);
-        if (tarziloen_book_grant(buffer.data(), buffer.size(), length, a, a + 40, 0, uint16_t(i % 128), values, 4) != 0) std::exit(1);
+        if (tarziloen_book_grant(buffer.data(), buffer.size(), length, a, a + 40, 0, uint16_t(i % 128), 0, values, 4) != 0) std::exit(1);
         length = values[1];
     }
     buffer.resize(length);
@@ -137,19 +137,19 @@ static void time_book(size_t circuits) {
     Bytes buffer(5120);
     std::memcpy(buffer.data(), stored.data(), stored.size());
     line("load and show", circuits,
-         microseconds([&] { tarziloen_book_show(stored.data(), stored.size(), some, values, 4); }),
+         microseconds([&] { tarziloen_book_show(stored.data(), stored.size(), some, 0, values, 4); }),
          microseconds([&] {
              Book book = decode(stored);
              for (const Circuit& c : book.live)
                  if (c.serial == some) values[0] = c.a;
          }));
     line("load and holder", circuits,
-         microseconds([&] { tarziloen_book_holder(stored.data(), stored.size(), 250, 5, values, 4); }),
+         microseconds([&] { tarziloen_book_holder(stored.data(), stored.size(), 250, 5, 0, values, 4); }),
          microseconds([&] { values[0] = uint16_t(holder(decode(stored), 250, 5)); }));
     line("load, grant and store", circuits,
          microseconds([&] {
              std::memcpy(buffer.data(), stored.data(), stored.size());
-             if (tarziloen_book_grant(buffer.data(), buffer.size(), stored.size(), 250, 255, 0, 127, values, 4) != 0) std::exit(1);
+             if (tarziloen_book_grant(buffer.data(), buffer.size(), stored.size(), 250, 255, 0, 127, 0, values, 4) != 0) std::exit(1);
          }),
          microseconds([&] {
              Book book = decode(stored);
@@ -181,21 +181,21 @@ static void time_book(size_t circuits) {
 
 static void time_preview(size_t circuits) {
     const Bytes stored = book_of(circuits);
-    uint16_t values[19], lines[64];
+    uint16_t values[19], lines[80];
     for (uint16_t i = 0; i < 16; i++) {
-        const uint16_t asked[4] = {250, 255, 0, i};
-        std::memcpy(lines + 4 * i, asked, sizeof asked);
+        const uint16_t asked[5] = {250, 255, 0, i, 0};
+        std::memcpy(lines + 5 * i, asked, sizeof asked);
     }
     Bytes buffer(5120);
     double grants = microseconds([&] {
         size_t length = stored.size();
         std::memcpy(buffer.data(), stored.data(), length);
         for (uint16_t i = 0; i < 16; i++) {
-            if (tarziloen_book_grant(buffer.data(), buffer.size(), length, 250, 255, 0, i, values, 2) != 0) std::exit(1);
+            if (tarziloen_book_grant(buffer.data(), buffer.size(), length, 250, 255, 0, i, 0, values, 2) != 0) std::exit(1);
             length = values[1];
         }
     });
-    double preview = microseconds([&] { tarziloen_book_preview(stored.data(), stored.size(), lines, 64, values, 19); });
+    double preview = microseconds([&] { tarziloen_book_preview(stored.data(), stored.size(), lines, 80, values, 19); });
     if (values[0] != 16 || values[1] != 65535 || values[18] != circuits + 16) std::exit(1);
     line("preview of 16 lines", circuits, preview, grants);
 }

@@ -33,7 +33,8 @@
  *   11  the colour is held on a link of the way
  *   12  512 circuits are live or pending, and the book has no other place
  *   13  serial 65,535 has been given
- *   14  the serial is 0 or was never given
+ *   14  the serial is 0 or was never given; to a crew other than the desk, it
+ *       is that of no live order of its own
  *   15  the order was removed
  *   16  the link is n or more
  *   17  the buffer is shorter than the stored form
@@ -45,10 +46,12 @@
  *   21  the text is longer than 8,192 bytes or not of the stated form; only
  *       printed, by tarziloen_answer
  *   22  no line or more than 16, or a number of entries that is no multiple of
- *       four; in tarziloen_book_preview
+ *       five; in tarziloen_book_preview
  *   23  the circuit is live; in tarziloen_book_confirm
  *   24  the order was already confirmed; in tarziloen_book_confirm
- *   25  a book with a pending record cannot be stored; in tarziloen_book_remove
+ *   25  a record that is pending or whose crew is not 0 cannot be stored; in
+ *       tarziloen_book_grant and tarziloen_book_remove
+ *   26  the crew is above 999
  *
  * A refused call changes neither plan table nor buffer. The values of a call go
  * to the first entries of `values`; where it has fewer, as many as fit are
@@ -121,12 +124,22 @@ size_t tarziloen_answer(const uint8_t *text, size_t text_length,
  * of TARZILOEN_BOOK_BYTES has room for every book.
  *
  * A record of a book is live or pending. A removal leaves it pending: its place
- * and its colour stay held until the pull of its patch is confirmed. The stored
- * form cannot hold a pending record, so every record in a buffer is live, a
- * removal that the book would accept is refused by 25 and changes nothing, and
- * a confirmation finds nothing to free. A serial that was given and has no
- * record in the stored form, as in forms from the time when a removal freed
- * the colour at once, is answered by 15, and its confirmation by 24.
+ * and its colour stay held until the pull of its patch is confirmed.
+ *
+ * A record has a crew, 0 to 999, and 0 is the desk. A grant names the crew of
+ * the circuit, and a question the crew that asks. The desk reads every order.
+ * Another crew reads its own live orders: every other serial is to it as one
+ * that was never given, and of a colour that any other order holds, a pending
+ * one of its own too, it learns only that it is held. Removals and
+ * confirmations are the desk's.
+ *
+ * The stored form has no room for states and crews, so every record in a buffer
+ * is live and has crew 0. A removal that the book would accept is refused by 25
+ * and changes nothing, and so is a grant to a crew other than the desk; a
+ * confirmation finds nothing to free, and a crew other than the desk no order
+ * of its own. A serial that was given and has no record in the stored form, as
+ * in forms from the time when a removal freed the colour at once, is answered
+ * to the desk by 15, and its confirmation by 24.
  */
 
 /*
@@ -140,17 +153,20 @@ uint16_t tarziloen_book_open(uint16_t n, uint16_t w,
                              uint16_t *values, size_t values_length);
 
 /*
- * Grants a circuit between the nodes x and y, in any order.
+ * Grants a circuit between the nodes x and y, in any order, to a crew. The
+ * stored form has no room for a crew other than the desk, so that such a grant
+ * is refused by 25 if by nothing before.
  *
  * In: the first `length` bytes of `buffer`, the book; the way, 0 plain or
- * 1 seam; the colour. Out: `buffer`, the book with the circuit. Values: the
- * serial of the order, which rises from 1 and is never given twice; the length
- * of the stored form.
- * Refused: 18, 19, 20, then 4, 5, 9 to 13, then 17.
+ * 1 seam; the colour; the crew. Out: `buffer`, the book with the circuit.
+ * Values: the serial of the order, which rises from 1 and is never given twice;
+ * the length of the stored form.
+ * Refused: 18, 19, 20, then 4, 5, 9, 10, 26, 11, 12, 13, then 25, 17.
  */
 uint16_t tarziloen_book_grant(uint8_t *buffer, size_t buffer_length,
                               size_t length,
                               uint16_t x, uint16_t y, uint16_t way, uint16_t colour,
+                              uint16_t crew,
                               uint16_t *values, size_t values_length);
 
 /*
@@ -183,40 +199,44 @@ uint16_t tarziloen_book_confirm(uint8_t *buffer, size_t buffer_length,
                                 uint16_t *values, size_t values_length);
 
 /*
- * Shows an order.
+ * Shows an order to a crew.
  *
- * In: `bytes`, the book, no byte more; the serial of the order. Values: a, b,
- * the way (0 plain, 1 seam), the colour.
- * Refused: 18, 19, 20, then 14, 15.
+ * In: `bytes`, the book, no byte more; the serial of the order; the crew that
+ * asks. Values: a, b, the way (0 plain, 1 seam), the colour.
+ * Refused: 18, 19, 20, then 26, 14, 15. A crew other than the desk gets 14 for
+ * every serial that is not a live order of its own, and never 15.
  */
 uint16_t tarziloen_book_show(const uint8_t *bytes, size_t bytes_length,
-                             uint16_t serial,
+                             uint16_t serial, uint16_t crew,
                              uint16_t *values, size_t values_length);
 
 /*
- * Says who holds a colour on a link.
+ * Says to a crew who holds a colour on a link.
  *
- * In: `bytes`, the book, no byte more; the link; the colour. Values: the serial
- * of the order that holds it, or 0 if it is free.
- * Refused: 18, 19, 20, then 16, 10.
+ * In: `bytes`, the book, no byte more; the link; the colour; the crew that
+ * asks. Values: 0 if the colour is free, 1 if it is held, 2 if it is held by an
+ * order that the crew may read, which is its own live one, for the desk any;
+ * then the serial of that order, or 0.
+ * Refused: 18, 19, 20, then 26, 16, 10.
  */
 uint16_t tarziloen_book_holder(const uint8_t *bytes, size_t bytes_length,
-                               uint16_t link, uint16_t colour,
+                               uint16_t link, uint16_t colour, uint16_t crew,
                                uint16_t *values, size_t values_length);
 
 /*
  * Tries 1 to 16 grants: says what they would answer on a copy of the book, one
  * after another, up to the first that would be turned down; later lines are not
- * looked at. The book stays as it is.
+ * looked at. The book stays as it is, and the copy is not stored: a line to any
+ * crew is tried.
  *
- * In: `bytes`, the book, no byte more; `lines`, four entries for each line in
- * turn, as in tarziloen_book_grant: x, y, way (0 plain, 1 seam), colour.
+ * In: `bytes`, the book, no byte more; `lines`, five entries for each line in
+ * turn, as in tarziloen_book_grant: x, y, way (0 plain, 1 seam), colour, crew.
  * Values: the number of serials; the line, counted from 0, that would be turned
  * down, and the number of its ground, or 65,535 and 0 if no line would be; then
  * the serials that the lines before it, or all of them, would get, in order.
  * TARZILOEN_PREVIEW_VALUES entries have room for every answer.
  * Refused: 18, 19, 20, then 22, before any line is looked at. A line's own
- * ground, 4, 5, 9 to 13, is among the values of an accepted call.
+ * ground, 4, 5, 9, 10, 26, 11, 12, 13, is among the values of an accepted call.
  */
 uint16_t tarziloen_book_preview(const uint8_t *bytes, size_t bytes_length,
                                 const uint16_t *lines, size_t lines_length,

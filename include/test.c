@@ -1,7 +1,8 @@
 /*
  * Calls every function of tarziloen.h, on cases T1 and T5 of the rules, on T7 as
- * far as a stored form can hold it, on a bundle and on the refusals of a book in
- * a buffer; prints each answer that is another one.
+ * far as a stored form can hold it, for the desk and for other crews, on a
+ * bundle and on the refusals of a book in a buffer; prints each answer that is
+ * another one.
  *
  * From the top folder, after `rt staticlib export`:
  *
@@ -86,27 +87,28 @@ static void book(void)
 
     expect("open", tarziloen_book_open(4, 1, buffer, sizeof buffer, values, 4), 0);
     expect("length of a new book", values[0], 512);
-    expect("{0,2}", tarziloen_book_grant(buffer, sizeof buffer, 512, 0, 2, 0, 0, values, 4), 0);
+    expect("{0,2}", tarziloen_book_grant(buffer, sizeof buffer, 512, 0, 2, 0, 0, 0, values, 4), 0);
     expect("its serial", values[0], 1);
     expect("length of a book", values[1], 1024);
-    expect("{2,3}", tarziloen_book_grant(buffer, sizeof buffer, 1024, 2, 3, 0, 0, values, 4), 0);
+    expect("{2,3}", tarziloen_book_grant(buffer, sizeof buffer, 1024, 2, 3, 0, 0, 0, values, 4), 0);
     expect("its serial", values[0], 2);
     memcpy(before, buffer, sizeof buffer);
-    expect("{1,3}", tarziloen_book_grant(buffer, sizeof buffer, 1024, 1, 3, 0, 0, values, 4), 11);
+    expect("{1,3}", tarziloen_book_grant(buffer, sizeof buffer, 1024, 1, 3, 0, 0, 0, values, 4), 11);
     expect("same buffer", memcmp(buffer, before, sizeof buffer) == 0, 1);
-    expect("{0,2} seam", tarziloen_book_grant(buffer, sizeof buffer, 1024, 0, 2, 1, 0, values, 4), 11);
-    expect("{0,3} seam", tarziloen_book_grant(buffer, sizeof buffer, 1024, 3, 0, 1, 0, values, 4), 0);
+    expect("{0,2} seam", tarziloen_book_grant(buffer, sizeof buffer, 1024, 0, 2, 1, 0, 0, values, 4), 11);
+    expect("{0,3} seam", tarziloen_book_grant(buffer, sizeof buffer, 1024, 3, 0, 1, 0, 0, values, 4), 0);
     expect("its serial", values[0], 3);
-    expect("show 4", tarziloen_book_show(buffer, 1024, 4, values, 4), 14);
-    expect("show 2", tarziloen_book_show(buffer, 1024, 2, values, 4), 0);
+    expect("show 4", tarziloen_book_show(buffer, 1024, 4, 0, values, 4), 14);
+    expect("show 2", tarziloen_book_show(buffer, 1024, 2, 0, values, 4), 0);
     expect("a", values[0], 2);
     expect("b", values[1], 3);
     expect("way", values[2], 0);
     expect("colour", values[3], 0);
-    expect("link 3", tarziloen_book_holder(buffer, 1024, 3, 0, values, 4), 0);
-    expect("its holder", values[0], 3);
-    expect("link 4", tarziloen_book_holder(buffer, 1024, 4, 0, values, 4), 16);
-    expect("colour 1", tarziloen_book_holder(buffer, 1024, 0, 1, values, 4), 10);
+    expect("link 3", tarziloen_book_holder(buffer, 1024, 3, 0, 0, values, 4), 0);
+    expect("held by an order", values[0], 2);
+    expect("its holder", values[1], 3);
+    expect("link 4", tarziloen_book_holder(buffer, 1024, 4, 0, 0, values, 4), 16);
+    expect("colour 1", tarziloen_book_holder(buffer, 1024, 0, 1, 0, values, 4), 10);
 }
 
 /* Counts one grant more in a stored form, and puts its check right: the form has no record of that order. */
@@ -126,7 +128,7 @@ static void removal(void)
     uint16_t values[2] = {0};
 
     expect("open", tarziloen_book_open(4, 1, buffer, sizeof buffer, values, 2), 0);
-    expect("{0,2}", tarziloen_book_grant(buffer, sizeof buffer, 512, 0, 2, 0, 0, values, 2), 0);
+    expect("{0,2}", tarziloen_book_grant(buffer, sizeof buffer, 512, 0, 2, 0, 0, 0, values, 2), 0);
     lapse(buffer);
     memcpy(before, buffer, sizeof buffer);
     values[0] = 7;
@@ -139,53 +141,92 @@ static void removal(void)
     expect("confirm 3", tarziloen_book_confirm(buffer, sizeof buffer, 1024, 3, values, 2), 14);
     expect("confirm 1", tarziloen_book_confirm(buffer, sizeof buffer, 1024, 1, values, 2), 23);
     expect("confirm 2", tarziloen_book_confirm(buffer, sizeof buffer, 1024, 2, values, 2), 24);
-    expect("show 2", tarziloen_book_show(buffer, 1024, 2, values, 2), 15);
+    expect("show 2", tarziloen_book_show(buffer, 1024, 2, 0, values, 2), 15);
     expect("untouched values", values[0], 7);
     expect("same buffer", memcmp(buffer, before, sizeof buffer) == 0, 1);
-    expect("link 0", tarziloen_book_holder(buffer, 1024, 0, 0, values, 2), 0);
-    expect("held as before", values[0], 1);
-    expect("link 2", tarziloen_book_holder(buffer, 1024, 2, 0, values, 2), 0);
+    expect("link 0", tarziloen_book_holder(buffer, 1024, 0, 0, 0, values, 2), 0);
+    expect("held as before", values[1], 1);
+    expect("link 2", tarziloen_book_holder(buffer, 1024, 2, 0, 0, values, 2), 0);
     expect("free", values[0], 0);
-    expect("{2,3}", tarziloen_book_grant(buffer, sizeof buffer, 1024, 2, 3, 0, 0, values, 2), 0);
+    expect("no serial", values[1], 0);
+    expect("{2,3}", tarziloen_book_grant(buffer, sizeof buffer, 1024, 2, 3, 0, 0, 0, values, 2), 0);
+    expect("its serial", values[0], 3);
+}
+
+/* A grant to another crew than the desk has no stored form; what such a crew learns of the desk's orders, live and lapsed. */
+static void crews(void)
+{
+    uint8_t buffer[TARZILOEN_BOOK_BYTES] = {0};
+    uint8_t before[TARZILOEN_BOOK_BYTES];
+    uint16_t values[4] = {0};
+
+    expect("open", tarziloen_book_open(4, 1, buffer, sizeof buffer, values, 4), 0);
+    expect("{0,2}", tarziloen_book_grant(buffer, sizeof buffer, 512, 0, 2, 0, 0, 0, values, 4), 0);
+    lapse(buffer);
+    memcpy(before, buffer, sizeof buffer);
+    values[0] = 7;
+    expect("{2,3} to 1", tarziloen_book_grant(buffer, sizeof buffer, 1024, 2, 3, 0, 0, 1, values, 4), 25);
+    expect("{2,3} to 999", tarziloen_book_grant(buffer, sizeof buffer, 1024, 2, 3, 0, 0, 999, values, 4), 25);
+    expect("{2,3} to 1000", tarziloen_book_grant(buffer, sizeof buffer, 1024, 2, 3, 0, 0, 1000, values, 4), 26);
+    expect("{1,3} to 999", tarziloen_book_grant(buffer, sizeof buffer, 1024, 1, 3, 0, 0, 999, values, 4), 11);
+    expect("{1,3} to 65535", tarziloen_book_grant(buffer, sizeof buffer, 1024, 1, 3, 0, 0, 65535, values, 4), 26);
+    expect("colour 1 to 1000", tarziloen_book_grant(buffer, sizeof buffer, 1024, 1, 3, 0, 1, 1000, values, 4), 10);
+    expect("show 1 to 1", tarziloen_book_show(buffer, 1024, 1, 1, values, 4), 14);
+    expect("show 2 to 1", tarziloen_book_show(buffer, 1024, 2, 1, values, 4), 14);
+    expect("show 3 to 1", tarziloen_book_show(buffer, 1024, 3, 1, values, 4), 14);
+    expect("show 1 to 1000", tarziloen_book_show(buffer, 1024, 1, 1000, values, 4), 26);
+    expect("show 0 to 1000", tarziloen_book_show(buffer, 1024, 0, 1000, values, 4), 26);
+    expect("link 4 for 1000", tarziloen_book_holder(buffer, 1024, 4, 1, 1000, values, 4), 26);
+    expect("link 4 for 999", tarziloen_book_holder(buffer, 1024, 4, 1, 999, values, 4), 16);
+    expect("colour 1 for 999", tarziloen_book_holder(buffer, 1024, 3, 1, 999, values, 4), 10);
+    expect("untouched values", values[0], 7);
+    expect("same buffer", memcmp(buffer, before, sizeof buffer) == 0, 1);
+    expect("link 1 for 999", tarziloen_book_holder(buffer, 1024, 1, 0, 999, values, 4), 0);
+    expect("held", values[0], 1);
+    expect("no serial", values[1], 0);
+    expect("link 2 for 999", tarziloen_book_holder(buffer, 1024, 2, 0, 999, values, 4), 0);
+    expect("free", values[0], 0);
+    expect("no serial", values[1], 0);
+    expect("{2,3}", tarziloen_book_grant(buffer, sizeof buffer, 1024, 2, 3, 0, 0, 0, values, 4), 0);
     expect("its serial", values[0], 3);
 }
 
 static void preview(void)
 {
-    /* Line 1 wants link 1, which line 0 would hold; line 2 is not looked at. */
-    const uint16_t lines[12] = {1, 2, 0, 0, 3, 1, 0, 0, 9, 9, 9, 9};
-    const uint16_t many[68] = {9};
+    /* Line 1 wants link 1, which line 0 would hold; line 2, to no crew and on a link that is held, is not looked at. */
+    const uint16_t lines[15] = {1, 2, 0, 0, 7, 3, 1, 0, 0, 999, 0, 1, 0, 0, 1000};
+    const uint16_t many[85] = {9};
     uint8_t buffer[TARZILOEN_BOOK_BYTES] = {0};
     uint8_t before[TARZILOEN_BOOK_BYTES];
     uint16_t values[TARZILOEN_PREVIEW_VALUES] = {0};
 
     expect("open", tarziloen_book_open(4, 1, buffer, sizeof buffer, values, 19), 0);
-    expect("{0,1}", tarziloen_book_grant(buffer, sizeof buffer, 512, 0, 1, 0, 0, values, 19), 0);
+    expect("{0,1}", tarziloen_book_grant(buffer, sizeof buffer, 512, 0, 1, 0, 0, 0, values, 19), 0);
     memcpy(before, buffer, sizeof buffer);
-    expect("line 0 alone", tarziloen_book_preview(buffer, 1024, lines, 4, values, 19), 0);
+    expect("line 0 alone", tarziloen_book_preview(buffer, 1024, lines, 5, values, 19), 0);
     expect("one serial", values[0], 1);
     expect("no line turned down", values[1], 65535);
     expect("no ground", values[2], 0);
     expect("its serial", values[3], 2);
-    expect("line 1 alone", tarziloen_book_preview(buffer, 1024, lines + 4, 4, values, 19), 0);
+    expect("line 1 alone", tarziloen_book_preview(buffer, 1024, lines + 5, 5, values, 19), 0);
     expect("no line turned down", values[1], 65535);
-    expect("all lines", tarziloen_book_preview(buffer, 1024, lines, 12, values, 19), 0);
+    expect("all lines", tarziloen_book_preview(buffer, 1024, lines, 15, values, 19), 0);
     expect("one serial", values[0], 1);
     expect("line 1", values[1], 1);
     expect("held", values[2], 11);
     expect("serial of line 0", values[3], 2);
-    expect("line 2 alone", tarziloen_book_preview(buffer, 1024, lines + 8, 4, values, 3), 0);
+    expect("line 2 alone", tarziloen_book_preview(buffer, 1024, lines + 10, 5, values, 3), 0);
     expect("no serial", values[0], 0);
     expect("line 0", values[1], 0);
-    expect("an end", values[2], 4);
+    expect("above 999", values[2], 26);
     values[0] = 7;
     expect("no line", tarziloen_book_preview(buffer, 1024, lines, 0, values, 19), 22);
-    expect("3 entries", tarziloen_book_preview(buffer, 1024, lines, 3, values, 19), 22);
-    expect("17 lines", tarziloen_book_preview(buffer, 1024, many, 68, values, 19), 22);
+    expect("4 entries", tarziloen_book_preview(buffer, 1024, lines, 4, values, 19), 22);
+    expect("17 lines", tarziloen_book_preview(buffer, 1024, many, 85, values, 19), 22);
     expect("untouched values", values[0], 7);
-    expect("16 lines", tarziloen_book_preview(buffer, 1024, many, 64, values, 19), 0);
+    expect("16 lines", tarziloen_book_preview(buffer, 1024, many, 80, values, 19), 0);
     expect("same buffer", memcmp(buffer, before, sizeof buffer) == 0, 1);
-    expect("{1,2}", tarziloen_book_grant(buffer, sizeof buffer, 1024, 1, 2, 0, 0, values, 19), 0);
+    expect("{1,2}", tarziloen_book_grant(buffer, sizeof buffer, 1024, 1, 2, 0, 0, 0, values, 19), 0);
     expect("the serial of the preview", values[0], 2);
 }
 
@@ -200,15 +241,16 @@ static void refusals(void)
     expect("short buffer", tarziloen_book_open(4, 1, buffer, 511, values, 2), 17);
     expect("untouched buffer", buffer[0], 7);
     expect("open", tarziloen_book_open(4, 1, buffer, sizeof buffer, values, 2), 0);
-    expect("no room for a circuit", tarziloen_book_grant(buffer, 1023, 512, 0, 2, 0, 0, values, 2), 17);
+    expect("no room for a circuit", tarziloen_book_grant(buffer, 1023, 512, 0, 2, 0, 0, 0, values, 2), 17);
+    expect("nor for a crew", tarziloen_book_grant(buffer, 1023, 512, 0, 2, 0, 0, 1, values, 2), 25);
     expect("length past the buffer", tarziloen_book_remove(buffer, 511, 512, 1, values, 2), 18);
     expect("length past the buffer", tarziloen_book_confirm(buffer, 511, 512, 1, values, 2), 18);
-    expect("length of no form", tarziloen_book_show(buffer, 511, 1, values, 2), 18);
+    expect("length of no form", tarziloen_book_show(buffer, 511, 1, 1000, values, 2), 18);
     expect("length of no form", tarziloen_book_preview(buffer, 511, lines, 3, values, 2), 18);
     buffer[4] ^= 1;
-    expect("changed byte", tarziloen_book_holder(buffer, 512, 0, 0, values, 2), 19);
+    expect("changed byte", tarziloen_book_holder(buffer, 512, 0, 0, 1000, values, 2), 19);
     expect("changed byte", tarziloen_book_preview(buffer, 512, lines, 3, values, 2), 19);
-    expect("changed byte", tarziloen_book_grant(buffer, sizeof buffer, 512, 0, 0, 2, 9, values, 2), 19);
+    expect("changed byte", tarziloen_book_grant(buffer, sizeof buffer, 512, 0, 0, 2, 9, 1000, values, 2), 19);
     expect("changed byte", tarziloen_book_remove(buffer, sizeof buffer, 512, 0, values, 2), 19);
     expect("changed byte", tarziloen_book_confirm(buffer, sizeof buffer, 512, 0, values, 2), 19);
 }
@@ -220,6 +262,7 @@ int main(void)
     answer();
     book();
     removal();
+    crews();
     preview();
     refusals();
     printf(failures == 0 ? "ok\n" : "failed\n");

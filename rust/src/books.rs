@@ -20,13 +20,33 @@ pub struct Circuit {
     pub colour: u16,
 }
 
-/// A grant that is asked for: its ends in any order, its way and its colour.
+/// A crew, 0 to 999, of which 0 is the desk. A call with any other number is refused by 26.
+#[derive(Clone, Copy, Debug, PartialEq, Eq)]
+pub struct Crew(pub u16);
+
+impl Crew {
+    /// The desk, which reads every order.
+    pub const DESK: Crew = Crew(0);
+}
+
+/// A grant that is asked for: its ends in any order, its way, its colour and its crew.
 #[derive(Clone, Copy, Debug, PartialEq, Eq)]
 pub struct Line {
     pub x: u16,
     pub y: u16,
     pub way: Way,
     pub colour: u16,
+    pub crew: Crew,
+}
+
+/// What a crew learns of a colour on a link.
+#[derive(Clone, Copy, Debug, PartialEq, Eq)]
+pub enum Holder {
+    Free,
+    /// Held by an order that the crew may not read.
+    Held,
+    /// Held by the order of this serial: a live one of the crew's own, for the desk any, live or pending.
+    HeldBy(u16),
 }
 
 /// What grants would give one after another: the serials up to the first line that would be turned down, if there is one.
@@ -43,11 +63,14 @@ pub struct Stop {
     pub refusal: Refusal,
 }
 
-/// A book, held as its stored form. Two books are equal if n, w, grants so far and live circuits agree.
+/// A book, held as its stored form. Two books are equal if n, w, grants so far, and live and pending circuits with their crews agree.
 ///
-/// A removal leaves a circuit pending: its place and its colour stay held until the pull of its patch is confirmed. The stored
-/// form cannot hold a pending record, so every record of this book is live. A removal that the book would accept is refused by 25
-/// and changes nothing, and a confirmation finds nothing to free.
+/// Every circuit has a crew. The desk reads all orders, another crew its own live ones only. A removal leaves a circuit pending:
+/// its place and its colour stay held until the pull of its patch is confirmed.
+///
+/// The stored form has no room for states and crews, so for now every record of this book is live and the desk's. A grant of
+/// another crew than the desk and a removal that the book would accept are refused by 25 and change nothing, a confirmation finds
+/// nothing to free, and another crew finds no order of its own.
 #[derive(Clone)]
 pub struct Book {
     buffer: [u8; Book::MAX_LENGTH],
@@ -68,7 +91,7 @@ impl Book {
     /// The book of a stored form.
     pub fn from_bytes(bytes: &[u8]) -> Result<Book, Refusal> {
         // No circuit has serial 0: the refusal is 14 if the bytes load, and the load's own if they do not.
-        if let Err(refusal) = buffers::show(bytes, 0) {
+        if let Err(refusal) = buffers::show(bytes, 0, Crew::DESK) {
             if refusal.number != 14 {
                 return Err(refusal);
             }
@@ -86,10 +109,19 @@ impl Book {
         &self.buffer[..self.length]
     }
 
-    /// Grants a circuit between two nodes; gives its serial.
-    pub fn grant(&mut self, x: u16, y: u16, way: Way, colour: u16) -> Result<u16, Refusal> {
+    /// Grants a circuit between two nodes to a crew; gives its serial. What is granted to another crew than the desk cannot be
+    /// stored, and is refused by 25 behind the grant's own grounds.
+    pub fn grant(
+        &mut self,
+        x: u16,
+        y: u16,
+        way: Way,
+        colour: u16,
+        crew: Crew,
+    ) -> Result<u16, Refusal> {
+        let way = way as u16;
         let (serial, length) =
-            buffers::grant(&mut self.buffer, self.length, [x, y], way as u16, colour)?;
+            buffers::grant(&mut self.buffer, self.length, [x, y], way, colour, crew)?;
         self.length = length;
         Ok(serial)
     }
@@ -107,21 +139,22 @@ impl Book {
         Ok(())
     }
 
-    /// Shows the circuit of a serial: 14, and 15 for one that the stored form no longer has.
-    pub fn show(&self, serial: u16) -> Result<Circuit, Refusal> {
-        buffers::show(self.bytes(), serial)
+    /// Shows the circuit of a serial to a crew: for the desk 14, and 15 for one that the stored form no longer has; for another
+    /// crew 14, whatever the serial, since no circuit of this book is its own.
+    pub fn show(&self, serial: u16, crew: Crew) -> Result<Circuit, Refusal> {
+        buffers::show(self.bytes(), serial, crew)
     }
 
-    /// The serial of the circuit that holds a colour on a link, or none if it is free.
-    pub fn holder(&self, link: u16, colour: u16) -> Result<Option<u16>, Refusal> {
-        buffers::holder(self.bytes(), link, colour)
+    /// Says to a crew whether a colour is held on a link, and by which order if it may read it.
+    pub fn holder(&self, link: u16, colour: u16, crew: Crew) -> Result<Holder, Refusal> {
+        buffers::holder(self.bytes(), link, colour, crew)
     }
 
-    /// Tries 1 to 16 grants, one after another, on a copy of the book.
+    /// Tries 1 to 16 grants, one after another, on a copy of the book. The copy is not stored, so any crew's grants are tried.
     pub fn preview(&self, lines: &[Line]) -> Result<Preview, Refusal> {
         let numbers: Vec<u16> = lines
             .iter()
-            .flat_map(|line| [line.x, line.y, line.way as u16, line.colour])
+            .flat_map(|line| [line.x, line.y, line.way as u16, line.colour, line.crew.0])
             .collect();
         buffers::preview(self.bytes(), &numbers)
     }

@@ -1,13 +1,13 @@
 //! A book in a buffer of the caller's, where its stored form is the first bytes.
 //!
 //! Each call loads the book, acts and stores it. Refusals of the load come first, then those of the
-//! operation, then 25 for a book with a pending record, then 17 for a buffer with no room for the new
-//! form. Bytes past the new form stay.
+//! operation, then 25 for a book with a record that is pending or whose crew is not 0, then 17 for a
+//! buffer with no room for the new form. Bytes past the new form stay.
 //!
-//! The stored form cannot hold a pending record, so every record in a buffer is live.
+//! The stored form has no room for states and crews, so every record in a buffer is live and the desk's.
 
 use crate::refusals::{answered, answered_with};
-use crate::{raw, Circuit, Preview, Refusal, Stop, Way};
+use crate::{raw, Circuit, Crew, Holder, Preview, Refusal, Stop, Way};
 
 /// The most values of a preview: the number of serials, a line and its refusal, 16 serials.
 const PREVIEW_VALUES: usize = 19;
@@ -20,18 +20,21 @@ pub fn open(n: u16, w: u16, buffer: &mut [u8]) -> Result<usize, Refusal> {
         .map(|values| values[0] as usize)
 }
 
-/// Grants a circuit between two nodes, by way 0 (plain) or 1 (seam); gives its serial and the length of the new form.
+/// Grants a circuit between two nodes, by way 0 (plain) or 1 (seam), to a crew; gives its serial and the length of the new form.
+/// The stored form has no room for a crew, so for another crew than the desk this is always refused: by 25 behind the load's
+/// refusals, 4, 5, 9, 10, 26, 11, 12 and 13.
 pub fn grant(
     buffer: &mut [u8],
     length: usize,
     [x, y]: [u16; 2],
     way: u16,
     colour: u16,
+    Crew(crew): Crew,
 ) -> Result<(u16, usize), Refusal> {
     let (start, room) = (buffer.as_mut_ptr(), buffer.len());
     // SAFETY: as in `open`; the library compares `length` with the buffer's own length.
     answered(|values, count| unsafe {
-        raw::tarziloen_book_grant(start, room, length, x, y, way, colour, values, count)
+        raw::tarziloen_book_grant(start, room, length, x, y, way, colour, crew, values, count)
     })
     .map(|values| (values[0], values[1] as usize))
 }
@@ -58,11 +61,11 @@ pub fn confirm(buffer: &mut [u8], length: usize, serial: u16) -> Result<usize, R
     .map(|values| values[0] as usize)
 }
 
-/// Shows the circuit of a serial in the book of a stored form.
-pub fn show(bytes: &[u8], serial: u16) -> Result<Circuit, Refusal> {
+/// Shows the circuit of a serial in the book of a stored form to a crew.
+pub fn show(bytes: &[u8], serial: u16, Crew(crew): Crew) -> Result<Circuit, Refusal> {
     // SAFETY: as in `open`.
     answered(|values, count| unsafe {
-        raw::tarziloen_book_show(bytes.as_ptr(), bytes.len(), serial, values, count)
+        raw::tarziloen_book_show(bytes.as_ptr(), bytes.len(), serial, crew, values, count)
     })
     .map(|[a, b, way, colour]| Circuit {
         a,
@@ -72,16 +75,22 @@ pub fn show(bytes: &[u8], serial: u16) -> Result<Circuit, Refusal> {
     })
 }
 
-/// The serial of the circuit that holds a colour on a link in the book of a stored form, or none.
-pub fn holder(bytes: &[u8], link: u16, colour: u16) -> Result<Option<u16>, Refusal> {
+/// Says to a crew whether a colour is held on a link in the book of a stored form, and by which order if it may read it.
+pub fn holder(bytes: &[u8], link: u16, colour: u16, Crew(crew): Crew) -> Result<Holder, Refusal> {
+    let (start, length) = (bytes.as_ptr(), bytes.len());
     // SAFETY: as in `open`.
     answered(|values, count| unsafe {
-        raw::tarziloen_book_holder(bytes.as_ptr(), bytes.len(), link, colour, values, count)
+        raw::tarziloen_book_holder(start, length, link, colour, crew, values, count)
     })
-    .map(|values| Some(values[0]).filter(|&serial| serial != 0))
+    .map(|[state, serial, ..]| match state {
+        0 => Holder::Free,
+        1 => Holder::Held,
+        _ => Holder::HeldBy(serial),
+    })
 }
 
-/// Tries 1 to 16 grants, one after another, on a copy of the book of a stored form; each has four numbers: x, y, way, colour.
+/// Tries 1 to 16 grants, one after another, on a copy of the book of a stored form; each has five numbers: x, y, way, colour and
+/// crew. The copy is not stored, so any crew's grants are tried.
 pub fn preview(bytes: &[u8], lines: &[u16]) -> Result<Preview, Refusal> {
     let (start, given) = (lines.as_ptr(), lines.len());
     // SAFETY: as in `open`.

@@ -37,6 +37,7 @@ extern "C" {
         y: u16,
         way: u16,
         colour: u16,
+        crew: u16,
         values: *mut u16,
         values_len: usize,
     ) -> u16;
@@ -60,6 +61,7 @@ extern "C" {
         bytes: *const u8,
         bytes_len: usize,
         serial: u16,
+        crew: u16,
         values: *mut u16,
         values_len: usize,
     ) -> u16;
@@ -68,6 +70,7 @@ extern "C" {
         bytes_len: usize,
         link: u16,
         colour: u16,
+        crew: u16,
         values: *mut u16,
         values_len: usize,
     ) -> u16;

@@ -41,7 +41,8 @@ impl Refusal {
             22 => "no line or more than 16",
             23 => "the circuit is live",
             24 => "already confirmed",
-            25 => "a book with a pending record cannot be stored",
+            25 => "a record that is pending or whose crew is not 0 cannot be stored",
+            26 => "crew above 999",
             _ => "unknown",
         }
     }
@@ -85,10 +86,10 @@ mod tests {
             let values = [0, 0];
             Refusal { number, values }.ground()
         };
-        let mut all: Vec<&str> = (1..=25).map(words).collect();
+        let mut all: Vec<&str> = (1..=26).map(words).collect();
         all.sort();
         all.dedup();
-        assert_eq!(all.len(), 25);
-        assert!(!all.contains(&words(0)) && words(0) == words(26));
+        assert_eq!(all.len(), 26);
+        assert!(!all.contains(&words(0)) && words(0) == words(27));
     }
 }

@@ -1,12 +1,12 @@
 //! The book in lent buffers of many sizes and under any length, against a naive one that is loaded, acts and is stored.
 mod reference;
 
-use reference::books::NaiveBook;
+use reference::books::{NaiveBook, DESK};
 use reference::draws::draw_grant;
 use reference::stored::{change, encode, load};
-use reference::tallies::Tally;
+use reference::tallies::{asked_by, Tally};
 use reference::Random;
-use ring_planner::buffers;
+use ring_planner::{buffers, Crew};
 
 /// A change of the book in a buffer as the rules have it: load, act, store.
 fn naive_call<T>(
@@ -24,6 +24,29 @@ fn naive_call<T>(
     Ok((answer, form.len()))
 }
 
+/// A grant on a buffer and on its copy; gives the length of the form afterwards.
+fn grant_call(
+    random: &mut Random,
+    buffer: &mut [u8],
+    copy: &mut [u8],
+    told: usize,
+    tally: &mut Tally,
+) -> Result<usize, u16> {
+    let asked @ [x, y, way, colour, crew] = draw_grant(random, 64, 8);
+    // The same for the desk says whether there is room.
+    let desk = naive_call(&mut copy.to_vec(), told, |book| {
+        book.grant([x, y, way, colour, DESK])
+    });
+    let got = buffers::grant(buffer, told, [x, y], way, colour, Crew(crew));
+    let want = naive_call(copy, told, |book| book.grant(asked));
+    let name = match (want, desk) {
+        (Err(25), Err(17)) => "grant to a crew without room",
+        _ => asked_by(crew, ["grant", "grant to a crew"]),
+    };
+    tally.agree(name, got, want);
+    want.map(|(_, length)| length)
+}
+
 /// One call on a buffer and on its copy; gives the length of the form afterwards.
 fn buffer_call(random: &mut Random, buffer: &mut [u8], length: usize, tally: &mut Tally) -> usize {
     let mut copy = buffer.to_vec();
@@ -35,21 +58,15 @@ fn buffer_call(random: &mut Random, buffer: &mut [u8], length: usize, tally: &mu
     };
     let serial = random.below(100) as u16;
     let after = match random.below(16) {
-        0..=10 => {
-            let (ends, way, colour) = draw_grant(random, 64, 8);
-            let got = buffers::grant(buffer, told, ends, way, colour);
-            let want = naive_call(&mut copy, told, |book| book.grant(ends, way, colour));
-            tally.agree(got, want);
-            want.map(|(_, length)| length)
-        }
+        0..=10 => grant_call(random, buffer, &mut copy, told, tally),
         11 | 12 => {
             let want = naive_call(&mut copy, told, |book| book.remove(serial)).map(|(_, l)| l);
-            tally.agree(buffers::remove(buffer, told, serial), want);
+            tally.agree("remove", buffers::remove(buffer, told, serial), want);
             want
         }
         13 | 14 => {
             let want = naive_call(&mut copy, told, |book| book.confirm(serial)).map(|(_, l)| l);
-            tally.agree(buffers::confirm(buffer, told, serial), want);
+            tally.agree("confirm", buffers::confirm(buffer, told, serial), want);
             want
         }
         _ => {
@@ -81,9 +98,9 @@ fn lent_buffers_of_every_size() {
                 Ok(form.len())
             }
         };
-        tally.agree(buffers::open(64, 8, &mut buffer), want);
-        tally.agree(buffers::open(2, 8, &mut buffer), Err(1));
-        tally.agree(buffers::open(64, 129, &mut buffer), Err(2));
+        tally.agree("open", buffers::open(64, 8, &mut buffer), want);
+        tally.agree("open", buffers::open(2, 8, &mut buffer), Err(1));
+        tally.agree("open", buffers::open(64, 129, &mut buffer), Err(2));
         assert!(buffer == copy, "all of the buffer");
         let mut length = want.unwrap_or(0);
         for _ in 0..400 {
@@ -92,6 +109,13 @@ fn lent_buffers_of_every_size() {
     }
     tally.report(
         "lent buffers",
-        &[0, 1, 2, 4, 5, 9, 10, 11, 14, 15, 17, 18, 19, 20, 23, 24, 25],
+        &[
+            ("open", &[0, 1, 2, 17]),
+            ("grant", &[0, 4, 5, 9, 10, 11, 17, 18, 19, 20]),
+            ("grant to a crew", &[4, 9, 10, 11, 18, 19, 20, 25, 26]),
+            ("grant to a crew without room", &[25]),
+            ("remove", &[14, 15, 18, 25]),
+            ("confirm", &[14, 18, 23, 24]),
+        ],
     );
 }

@@ -3,27 +3,27 @@ mod reference;
 
 use std::collections::BTreeMap;
 
-use reference::books::NaiveBook;
+use reference::books::{NaiveBook, DESK};
 use reference::draws::draw_grant;
 use reference::stored::{change, encode, load, put, seal, word, BLOCK};
 use reference::Random;
-use ring_planner::{buffers, Book, Refusal};
+use ring_planner::{buffers, Book, Crew, Refusal};
 
 /// The loader's verdict: the refusal's number, or none.
 fn verdict(bytes: &[u8]) -> Option<u16> {
     let number = Book::from_bytes(bytes).err().map(|r| r.number);
-    // A question on the same bytes is refused alike.
-    let asked = buffers::holder(bytes, 65535, 0).unwrap_err().number;
-    assert_eq!(asked, number.unwrap_or(16));
+    // A question on the same bytes is refused alike, and its own grounds come behind.
+    let asked = buffers::holder(bytes, 65535, 0, Crew(1000)).unwrap_err();
+    assert_eq!(asked.number, number.unwrap_or(26));
     number
 }
 
-/// A book with some live circuits, and removals in its past that were confirmed.
+/// A book with some live circuits, all the desk's, and removals in its past that were confirmed.
 fn book(random: &mut Random, n: u16, w: u16, live: usize) -> NaiveBook {
     let mut book = NaiveBook::open(n, w).unwrap();
     while book.live.len() < live {
-        let (ends, way, colour) = draw_grant(random, n, w);
-        if let Ok(serial) = book.grant(ends, way, colour) {
+        let asked = draw_grant(random, n, w);
+        if let Ok(serial) = change(&mut book, |book| book.grant(asked)) {
             if random.below(4) == 0 {
                 book.lapse(serial).unwrap();
             }
@@ -122,20 +122,30 @@ fn same_book(bytes: &[u8], naive: &NaiveBook) {
         same_refusals(&mut loaded, naive, serial);
     }
     assert_eq!(loaded.bytes(), encode(naive));
-    for serial in [0, naive.grants, naive.grants.wrapping_add(1)]
-        .iter()
-        .chain(naive.live.keys())
-    {
-        assert_eq!(
-            loaded.show(*serial).map_err(|r| r.number),
-            naive.show(*serial)
-        );
-    }
-    for (link, colour) in [(naive.n - 1, naive.w - 1), (naive.n, 0), (0, naive.w)] {
-        assert_eq!(
-            loaded.holder(link, colour).map_err(|r| r.number),
-            naive.holder(link, colour)
-        );
+    // To another crew no order is its own: a loaded circuit is the desk's.
+    for crew in [DESK, 1, 999] {
+        for serial in [0, naive.grants, naive.grants.wrapping_add(1)]
+            .iter()
+            .chain(naive.live.keys())
+        {
+            assert_eq!(
+                loaded.show(*serial, Crew(crew)).map_err(|r| r.number),
+                naive.show(*serial, crew)
+            );
+        }
+        for (link, colour) in [
+            (0, 0),
+            (naive.n - 1, naive.w - 1),
+            (naive.n, 0),
+            (0, naive.w),
+        ] {
+            assert_eq!(
+                loaded
+                    .holder(link, colour, Crew(crew))
+                    .map_err(|r| r.number),
+                naive.holder(link, colour, crew)
+            );
+        }
     }
 }
 

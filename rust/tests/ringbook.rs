@@ -1,36 +1,47 @@
-//! Commands to program `ringbook`: every command and refusal, lines as people type them, and long random sessions.
+//! Commands to program `ringbook`: every command and refusal, and lines as people type them.
 mod desk;
 mod reference;
 
 use desk::{
-    draw_line, not_understood, refused, run, Folder, NaiveDesk, BOOK_THERE, HELP, NO_BOOK,
-    TOO_LONG, UNFINISHED,
+    not_understood, refused, run, Folder, NaiveDesk, BOOK_THERE, HELP, NO_BOOK, TOO_LONG,
+    UNFINISHED,
 };
 use reference::books::many;
-use reference::draws::draw_serial;
 use reference::stored::encode;
-use reference::Random;
 
-/// Every command, as far as a file can follow: what a removal leaves cannot be stored.
+/// Every command, as far as a file can follow: what a removal leaves cannot be stored, nor what is granted to another crew than the desk.
 #[rustfmt::skip]
-const SESSION: [(&str, &str); 29] = [
+const SESSION: [(&str, &str); 44] = [
     ("count", "error there is no book yet (open N W begins one)"),
     ("confirm 1", "error there is no book yet (open N W begins one)"),
     ("pending", "error there is no book yet (open N W begins one)"),
     ("preview 0 2 0 0", "error there is no book yet (open N W begins one)"),
+    ("grant 0 2 0 0 1000", "error there is no book yet (open N W begins one)"),
     ("open 4 1", "opened 4 1"),
     ("open 4 1", "error there is a book in the file already"),
     ("grant 0 2 0 0", "granted 1"),
-    ("grant 3 2 0 0", "granted 2"),
+    ("grant 3 2 0 0 0", "granted 2"),
     ("preview 0 3 1 0", "would grant 3"),
-    ("preview 3 0 1 0, 0 3 1 0, 9 9 9 9", "would grant 3, line 1 refused 11 that colour is held on a link of the way"),
+    ("preview 0 3 1 0 7", "would grant 3"),
+    ("preview 3 0 1 0, 0 3 1 0 0, 9 9 9 9", "would grant 3, line 1 refused 11 that colour is held on a link of the way"),
+    ("preview 3 0 1 0 999, 0 3 1 0 1000, 9 9 9 9", "would grant 3, line 1 refused 26 crew above 999"),
     ("preview 4 0 0 0", "would grant none, line 0 refused 4 an end is n or more"),
     ("preview", "refused 22 no line or more than 16"),
+    ("grant 3 0 1 0 7", "refused 25 a record that is pending or whose crew is not 0 cannot be stored"),
+    ("grant 3 0 1 0 1000", "refused 26 crew above 999"),
+    ("grant 1 3 0 0 7", "refused 11 that colour is held on a link of the way"),
     ("holder 2 0", "held 2"),
+    ("holder 2 0 0", "held 2"),
+    ("holder 2 0 7", "held"),
+    ("holder 2 0 1000", "refused 26 crew above 999"),
     ("holder 3 0", "free"),
+    ("holder 3 0 7", "free"),
     ("show 2", "circuit 2 3 P 0"),
+    ("show 2 0", "circuit 2 3 P 0"),
+    ("show 2 7", "refused 14 serial 0 or never given"),
+    ("show 2 1000", "refused 26 crew above 999"),
     ("list", "order 1 0 2 P 0\norder 2 2 3 P 0"),
-    ("remove 1", "refused 25 a book with a pending record cannot be stored"),
+    ("remove 1", "refused 25 a record that is pending or whose crew is not 0 cannot be stored"),
     ("remove 3", "refused 14 serial 0 or never given"),
     ("confirm 1", "refused 23 the circuit is live"),
     ("confirm 3", "refused 14 serial 0 or never given"),
@@ -40,7 +51,9 @@ const SESSION: [(&str, &str); 29] = [
     ("preview 3 0 1 0", "would grant 3"),
     ("grant 3 0 1 0", "granted 3"),
     ("show 3", "circuit 0 3 S 0"),
+    ("show 3 7", "refused 14 serial 0 or never given"),
     ("holder 3 0", "held 3"),
+    ("holder 3 0 7", "held"),
     ("list", "order 1 0 2 P 0\norder 2 2 3 P 0\norder 3 0 3 S 0"),
     ("count", "live 3 grants 3"),
 ];
@@ -82,31 +95,23 @@ const WITHOUT_BOOK: [(&str, u16); 4] = [
 ];
 
 /// Refused by a book of 256 nodes, 4 colours, 512 live circuits and 600 grants so far: the file no longer has orders 513 to 600.
-const FULL_BOOK: [(&str, u16); 24] = [
-    ("grant 256 256 2 4", 4),
-    ("grant 7 7 2 4", 5),
-    ("grant 7 8 2 4", 9),
-    ("grant 7 8 0 4", 10),
-    ("grant 7 8 0 0", 11),
-    ("grant 0 255 1 3", 12),
+#[rustfmt::skip]
+const FULL_BOOK: [(&str, u16); 41] = [
+    ("grant 256 256 2 4", 4), ("grant 256 256 2 4 1000", 4),
+    ("grant 7 7 2 4", 5), ("grant 7 7 2 4 1000", 5),
+    ("grant 7 8 2 4", 9), ("grant 7 8 2 4 1000", 9),
+    ("grant 7 8 0 4", 10), ("grant 7 8 0 4 1000", 10),
+    ("grant 7 8 0 0 1000", 26), ("grant 0 255 1 3 65535", 26),
+    ("grant 7 8 0 0", 11), ("grant 7 8 0 0 999", 11),
+    ("grant 0 255 1 3", 12), ("grant 0 255 1 3 999", 12),
     ("preview", 22),
-    ("remove 0", 14),
-    ("remove 601", 14),
-    ("remove 600", 15),
-    ("remove 513", 15),
-    ("remove 512", 25),
-    ("confirm 0", 14),
-    ("confirm 601", 14),
-    ("confirm 65535", 14),
-    ("confirm 1", 23),
-    ("confirm 512", 23),
-    ("confirm 513", 24),
-    ("confirm 600", 24),
-    ("show 0", 14),
-    ("show 65535", 14),
-    ("show 513", 15),
-    ("holder 256 4", 16),
-    ("holder 255 4", 10),
+    ("remove 0", 14), ("remove 601", 14), ("remove 600", 15), ("remove 513", 15), ("remove 512", 25),
+    ("confirm 0", 14), ("confirm 601", 14), ("confirm 65535", 14), ("confirm 1", 23), ("confirm 512", 23),
+    ("confirm 513", 24), ("confirm 600", 24),
+    ("show 0", 14), ("show 65535", 14), ("show 513", 15),
+    ("show 0 1", 14), ("show 512 1", 14), ("show 513 999", 14), ("show 0 1000", 26), ("show 512 65535", 26),
+    ("holder 256 4", 16), ("holder 255 4", 10),
+    ("holder 256 4 999", 16), ("holder 255 4 999", 10), ("holder 256 4 1000", 26), ("holder 0 0 1000", 26),
 ];
 
 #[test]
@@ -135,32 +140,48 @@ fn every_refusal() {
         folder.answer("list\n"),
         NaiveDesk(Some(many(512, 600))).answers("list\n")
     );
-    let late = encode(&many(5, 65534));
-    folder.put("book", &Some(late));
-    let input = "grant 7 8 0 0\ngrant 8 9 0 0\nremove 65535\nconfirm 65535\nconfirm 65534\ncount\n";
-    let grounds = [13, 25, 23, 24];
-    let want = format!(
-        "granted 65535\n{}live 6 grants 65535\n",
-        grounds.map(refused).concat()
-    );
-    assert_eq!(folder.answer(input), want);
-    println!(
-        "{} refusals by text",
-        WITHOUT_BOOK.len() + FULL_BOOK.len() + grounds.len()
-    );
+    println!("{} refusals by text", WITHOUT_BOOK.len() + FULL_BOOK.len());
+}
+
+/// Answers of a book with 65,534 grants so far, one after another: the last serial goes to the desk, since no other grant can be stored.
+const LATE_BOOK: [(&str, u16); 8] = [
+    ("grant 7 8 0 0 1", 25),
+    ("grant 7 8 0 0", 0),
+    ("grant 8 9 0 0", 13),
+    ("grant 8 9 0 0 999", 13),
+    ("grant 8 9 0 0 1000", 26),
+    ("remove 65535", 25),
+    ("confirm 65535", 23),
+    ("confirm 65534", 24),
+];
+
+#[test]
+fn refusals_of_a_late_book() {
+    let folder = Folder::new("late");
+    folder.put("book", &Some(encode(&many(5, 65534))));
+    for (command, number) in LATE_BOOK {
+        let want = match number {
+            0 => "granted 65535\n".to_string(),
+            _ => refused(number),
+        };
+        assert_eq!(folder.answer(&format!("{command}\n")), want, "{command}");
+    }
+    assert_eq!(folder.answer("count\n"), "live 6 grants 65535\n");
 }
 
 /// Lines that are no command.
 #[rustfmt::skip]
-const BROKEN: [&str; 52] = [
-    "Count", "count 1", "counts", "show", "show ", "show 1 1", "show 000001", "show 65536", "show 99999",
+const BROKEN: [&str; 61] = [
+    "Count", "count 1", "counts", "show", "show ", "show 1 1 1", "show 000001", "show 65536", "show 99999",
     "show 100000", "show -1", "show +1", "show 1a", "show 0x1", "show\t1", "show 1\r", "show 1\0",
-    "show \u{663}", "sh ow 1", "open 4", "open 4 1 1", "grant 0 1 0", "grant 0 1 0 0 0", "grant 0 1 P 0",
-    "remove", "holder 1", "holder 1 1 1", "help me", "lists", "\t", "close", "previews", "preview 1", "preview 1 2 0",
+    "show \u{663}", "sh ow 1", "open 4", "open 4 1 1", "grant 0 1 0", "grant 0 1 0 0 0 0", "grant 0 1 P 0",
+    "remove", "holder 1", "holder 1 1 1 1", "help me", "lists", "\t", "close", "previews", "preview 1", "preview 1 2 0",
     "confirm", "confirm 1 1", "confirm1", "confirmed 1", "pending 1", "pendings", "Pending",
-    "preview 1 2 0 0 0", "preview ,", "preview 1 2 0 0,", "preview ,1 2 0 0", "preview 1 2 0 0, 2 3 0",
+    "preview 1 2 0 0 0 0", "preview ,", "preview 1 2 0 0,", "preview ,1 2 0 0", "preview 1 2 0 0, 2 3 0",
     "preview 1 2 0 0,,2 3 0 0", "preview 1 2 0 0 , 2 3 0 0", "preview 1 2 0 0 2 3 0 0", "preview 1,2,0,0",
     "preview 1 2 0 0, 2 3 0 65536", "preview,1 2 0 0",
+    "remove 1 1", "show 1 65536", "show 1 -1", "show 1, 1", "holder 0 0 000001", "grant 0 1 0 0 desk", "grant 0 1 0 0, 1",
+    "preview 1 2 0 0 0, 2 3 0 0 0 0", "preview 1 2 0 0 65536",
 ];
 
 #[test]
@@ -243,42 +264,4 @@ fn lines_without_end_and_long_lines() {
         folder.answer(&both),
         format!("{TOO_LONG}granted 1\n{UNFINISHED}")
     );
-}
-
-#[test]
-fn random_sessions_agree() {
-    let mut random = Random::new(10);
-    let (mut sessions, mut commands) = (0, 0);
-    let mut answers = String::new();
-    for _ in 0..5 {
-        let folder = Folder::new("random");
-        let mut naive = NaiveDesk::default();
-        for _ in 0..6 {
-            let (mut input, mut want) = (String::new(), String::new());
-            for _ in 0..random.below(100) {
-                let line = draw_line(&mut random, &naive);
-                want += &naive.answers(&line);
-                input += &line;
-                commands += 1;
-            }
-            assert_eq!(folder.answer(&input), want);
-            assert_eq!(folder.bytes("book"), naive.bytes());
-            assert_eq!(folder.bytes("book.new"), None);
-            answers += &want;
-            sessions += 1;
-            // The next session finds a file that no longer has some orders, in a form that only the second writer can write.
-            if let Some(book) = &mut naive.0 {
-                for _ in 0..book.live.len() / 3 {
-                    let serial = draw_serial(&mut random, book);
-                    let _ = book.lapse(serial);
-                }
-            }
-            folder.put("book", &naive.bytes());
-        }
-    }
-    for number in [14, 15, 23, 24, 25] {
-        let refusal = refused(number);
-        assert!(answers.contains(&refusal), "never {refusal}");
-    }
-    println!("{commands} commands in {sessions} sessions answered alike");
 }

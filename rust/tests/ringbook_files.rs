@@ -33,8 +33,8 @@ fn files_that_are_no_book() {
         (form[..1024].to_vec(), 20),
         (vec![0; 512], 20),
     ];
-    let commands =
-        "open 4 1\ngrant 0 1 0 0\npreview 0 1 0 0\npreview\nremove 1\nconfirm 1\nshow 1\nholder 0 0\ncount\nlist\npending\n";
+    let commands = "open 4 1\ngrant 0 1 0 0\npreview 0 1 0 0\npreview\nremove 1\nconfirm 1\nshow 1\nholder 0 0\ncount\nlist\npending\n\
+grant 0 1 0 0 1000\npreview 0 1 0 0 1000\nshow 1 1\nshow 1 1000\nholder 0 0 1\nholder 0 0 1000\n";
     let count = commands.lines().count();
     for (bytes, number) in files {
         let file = Some(bytes);
@@ -175,6 +175,8 @@ fn questions_leave_the_file_alone() {
     let before = inode();
     folder.answer("show 1\nholder 0 0\ncount\nlist\npending\ngrant 0 0 0 0\nopen 3 1\nnonsense\n");
     folder.answer("remove 80\nremove 1\nconfirm 91\nconfirm 1\nconfirm 80\n");
+    folder
+        .answer("show 1 7\nholder 0 0 7\ngrant 0 1 0 3 7\ngrant 0 1 0 3 1000\npreview 0 1 0 3 7\n");
     folder.answer("preview 0 1 0 3\npreview 0 1 0 3, 0 1 0 3\npreview 0 0 0 0\npreview\n");
     assert_eq!(inode(), before);
     // A question waits for nobody.

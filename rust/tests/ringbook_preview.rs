@@ -2,14 +2,14 @@
 mod desk;
 mod reference;
 
-use desk::{not_understood, refused, typed, Folder, NaiveDesk, NO_BOOK, TOO_LONG};
+use desk::{not_understood, refused, typed, typed_grant, Folder, NaiveDesk, NO_BOOK, TOO_LONG};
 use reference::books::{many, NaiveBook};
 use reference::draws::draw_bundle;
 use reference::stored::encode;
 use reference::Random;
 
 /// Answers of a book of 256 nodes and 4 colours, with links 0 to 3 held in colour 0 and 7 grants so far.
-const ANSWERS: [(&str, &str); 11] = [
+const ANSWERS: [(&str, &str); 17] = [
     ("preview 7 8 0 0", "would grant 8"),
     ("preview 7 8 0 0, 8 9 0 0, 9 10 0 0", "would grant 8 9 10"),
     ("preview 7 8 0 0,8 9 0 0,9 10 0 0", "would grant 8 9 10"),
@@ -45,6 +45,27 @@ const ANSWERS: [(&str, &str); 11] = [
         "preview 0 255 1 0, 7 8 0 4",
         "would grant 8, line 1 refused 10 colour w or more",
     ),
+    ("preview 7 8 0 0 0", "would grant 8"),
+    (
+        "preview 7 8 0 0 999, 8 9 0 0,9 10 0 0 00001",
+        "would grant 8 9 10",
+    ),
+    (
+        "preview 7 8 0 0 7, 7 8 0 0 7",
+        "would grant 8, line 1 refused 11 that colour is held on a link of the way",
+    ),
+    (
+        "preview 7 8 0 0 7, 7 8 0 0 1000",
+        "would grant 8, line 1 refused 26 crew above 999",
+    ),
+    (
+        "preview 0 255 1 0, 7 8 0 4 65535",
+        "would grant 8, line 1 refused 10 colour w or more",
+    ),
+    (
+        "preview 0 1 0 0 1000",
+        "would grant none, line 0 refused 26 crew above 999",
+    ),
 ];
 
 /// The answer to a line on a book, from a file that stays as it is, while another session writes.
@@ -71,7 +92,7 @@ fn answers_in_words() {
     for (line, answer) in ANSWERS {
         assert_eq!(answer_on(&folder, &many(4, 7), line), format!("{answer}\n"));
     }
-    let line = "preview 20 21 0 3, 21 22 0 3, 22 23 0 3";
+    let line = "preview 20 21 0 3, 21 22 0 3 7, 22 23 0 3 999";
     for (book, answer) in [
         (many(510, 600), "would grant 601 602, line 2 refused 12"),
         (many(512, 600), "would grant none, line 0 refused 12"),
@@ -97,7 +118,7 @@ fn spaced(line: &str, length: usize) -> String {
 
 /// A bundle of so many lines that a book of `many` would grant, with all digits that a number may have.
 fn long(count: usize) -> String {
-    let line = |i: usize| format!("{:05} {:05} 00000 00003", i + 1, i);
+    let line = |i: usize| format!("{:05} {:05} 00000 00003 00999", i + 1, i);
     let words: Vec<String> = (0..count).map(line).collect();
     format!("preview {}", words.join(", "))
 }
@@ -108,7 +129,7 @@ fn the_longest_bundle_and_answer() {
     let book = many(4, 65519);
     let serials: String = (65520..=65535).map(|serial| format!(" {serial}")).collect();
     let all = format!("would grant{serials}\n");
-    assert_eq!(long(16).len(), 406);
+    assert_eq!(long(16).len(), 502);
     for line in [long(16), spaced(&long(16), 1023), spaced(&long(16), 1024)] {
         assert_eq!(answer_on(&folder, &book, &line), all);
     }
@@ -116,7 +137,7 @@ fn the_longest_bundle_and_answer() {
         answer_on(&folder, &book, &spaced(&long(16), 1025)),
         TOO_LONG
     );
-    let stopped = long(15) + ", 00000 00001 00000 00003";
+    let stopped = long(15) + ", 00000 00001 00000 00003 00999";
     assert_eq!(
         answer_on(&folder, &many(4, 65520), &stopped),
         all.replace(" 65520", "").replace('\n', ", line 15 ") + &refused(11)
@@ -128,8 +149,8 @@ fn the_longest_bundle_and_answer() {
 fn too_many_lines() {
     let folder = Folder::new("crowded");
     let book = many(4, 7);
-    let bad = [[65535; 4]; 17];
-    let most = typed(&[[1, 2, 0, 0]; 127], ",");
+    let bad = [[65535; 5]; 17];
+    let most = format!("preview {}", ["1 2 0 0"; 127].join(","));
     assert_eq!(most.len(), 1023);
     for line in [&long(17), &typed(&bad, ", "), &most] {
         assert_eq!(answer_on(&folder, &book, line), refused(22));
@@ -141,6 +162,7 @@ fn too_many_lines() {
     for broken in [
         long(16) + ",",
         long(16) + ", 1 2 0",
+        long(16) + " 1",
         long(17) + " 1",
         most[..1021].to_string(),
     ] {
@@ -167,8 +189,8 @@ fn random_bundles_are_what_the_grants_say() {
                 if random.below(10) > 0 {
                     continue;
                 }
-                for [x, y, way, colour] in lines {
-                    let line = format!("grant {x} {y} {way} {colour}\n");
+                for asked in lines {
+                    let line = format!("grant {}\n", typed_grant(asked, false));
                     want += &naive.answers(&line);
                     input += &line;
                     grants += 1;

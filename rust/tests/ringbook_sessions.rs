@@ -24,6 +24,7 @@ fn a_terminal_closed_without_end_of_input() {
     let mut third = Session::new(folder.program().arg("book"));
     assert_eq!(third.enter("show 4\n"), "circuit 5 6 P 0\n");
     assert_eq!(third.enter("remove 4\n"), refused(25));
+    assert_eq!(third.enter("grant 6 7 0 0 5\n"), refused(25));
     assert_eq!(third.enter("grant 6 7 0 0\n"), "granted 5\n");
     assert_eq!(second.enter("show 4\n"), "circuit 5 6 P 0\n");
     assert_eq!(second.enter("show 5\n"), "circuit 6 7 P 0\n");
@@ -37,7 +38,8 @@ fn a_terminal_closed_without_end_of_input() {
 type Told = Vec<(u16, String)>;
 
 /// A session that gets so many grants, each answered before the next line is entered: in a colour of its own, and now and then in one of
-/// the places that every session wants, the first that is free. A removal between them is refused and changes nothing.
+/// the places that every session wants, the first that is free. Removals between them, and grants to another crew than the desk, are
+/// refused and change nothing.
 fn grants(folder: &Folder, colour: usize, count: usize) -> Told {
     let mut session = Session::new(folder.program().arg("book"));
     let (mut told, mut wanted) = (Told::new(), 0);
@@ -55,6 +57,7 @@ fn grants(folder: &Folder, colour: usize, count: usize) -> Told {
         };
         if colour == 0 {
             assert_eq!(session.enter(&format!("remove {serial}")), refused(25));
+            assert_eq!(session.enter("grant 0 255 1 0 7\n"), refused(25));
         }
         told.push((serial.trim().parse().unwrap(), line));
     }

@@ -73,9 +73,9 @@ module _ (h : List Event) (s : ℕ) where
     confirmed = ap (λ (x : Bool). x || wasConfirmed h s) (p .no-confirmation) ∙ k .confirmed;
   }
 
-  pub agrees-granted : (x y way colour : ℕ) → Agrees h s Unknown
-      → Agrees (GrantAnswered x y way colour (grant.Granted s) ∷ h) s (IsLive (circuitOf s x y way colour))
-  agrees-granted x y way colour k = record {
+  pub agrees-granted : (x y way colour crew : ℕ) → Agrees h s Unknown
+      → Agrees (GrantAnswered x y way colour crew (grant.Granted s) ∷ h) s (IsLive (circuitOf s x y way colour crew))
+  agrees-granted x y way colour crew k = record {
     lives = λ c. (
       λ q. inl (refl, cc q),
       λ z. ⊎-elim (λ p. ap IsLive (p .1)) (λ p. let q = k .lives c .1 (p .1) in impossible (cc q)) z,

@@ -17,7 +17,7 @@ use Rattle.book.specs.declared.circuits.Circuit.{Circuit}
 use Rattle.book.specs.declared.books.Book.{Book}
 use Rattle.book.specs.declared.confirmations.ConfirmAnswer.the-variants as confirm
 use Rattle.book.specs.declared.holders.HolderAnswer.the-variants as holder
-use Rattle.book.specs.Circuits.{asPending, circuit, endsOf, holds}
+use Rattle.book.specs.Circuits.{asPending, desk, circuit, endsOf, holds}
 use Rattle.book.specs.Books.{recordsOf, bookOf, Valid}
 use Rattle.book.specs.Removals.{withRecord, removed}
 use Rattle.book.specs.Confirmations.{withoutCircuit, confirmed}
@@ -74,7 +74,7 @@ module _ (n w : ℕ) (h : List Event) (b : Book) (k : Kept n w h b) (link colour
         holding = ap (λ (c : Circuit). holds c link colour) (at .there) ∙ g .holding;
       }
 
-  pub held-by : (s : ℕ) → ((heldBy b link colour ≡ holder.Held s) ↔ Holding h link colour s)
+  pub held-by : (s : ℕ) → ((heldBy b link colour ≡ holder.HeldBy s) ↔ Holding h link colour s)
   held-by s = (
     λ e. holder-stands s (held-at b (k .valid) link colour hl′ hc′ s e),
     λ g. at-held b (k .valid) link colour hl′ hc′ s (stands-holder s g),
@@ -84,7 +84,7 @@ module _ (n w : ℕ) (h : List Event) (b : Book) (k : Kept n w h b) (link colour
   held-free = (to, from)
     where
       to : heldBy b link colour ≡ holder.Free → (s : ℕ) → Holding h link colour s → ⊥
-      to e s g = let q : heldBy b link colour ≡ holder.Held s = held-by s .1 g in impossible (cc)
+      to e s g = let q : heldBy b link colour ≡ holder.HeldBy s = held-by s .1 g in impossible (cc)
 
       from : ((s : ℕ) → Holding h link colour s → ⊥) → heldBy b link colour ≡ holder.Free
       from f =
@@ -102,8 +102,8 @@ unfolding heldBy holderVerdict
 pending-keeps b v i l link colour =
     let ds : List Circuit = set (recordsOf b) i (asPending (circuit (recordsOf b) i)) in
     ap (holderUnless (holderVerdict b link colour))
-    (ap (λ (d : Book). holderIn (recordsOf d) link colour) (record-form b v i (asPending (circuit (recordsOf b) i)) l)
-    ∙ ap (λ (cs : List Circuit). holderIn cs link colour) (records-form (b .n) (b .w) (b .grants) ds)
+    (ap (λ (d : Book). holderIn desk (recordsOf d) link colour) (record-form b v i (asPending (circuit (recordsOf b) i)) l)
+    ∙ ap (λ (cs : List Circuit). holderIn desk cs link colour) (records-form (b .n) (b .w) (b .grants) ds)
     ∙ alike-holder (recordsOf b) ds (pending-alike (recordsOf b) i) link colour)
 
 keeps : (b : Book) → Valid b → (s link colour : ℕ) → heldBy (removed b s .book) link colour ≡ heldBy b link colour

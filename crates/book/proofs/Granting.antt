@@ -37,28 +37,29 @@ or-else-same verdict.Allowed p q h = h refl
 or-else-same (verdict.Refused r) p q h = refl
 
 -- a verdict that allows says that there is a place and a serial
-room-there : (b : Book) (x y way colour : ℕ) → verdictByEnds b x y way colour ≡ verdict.Allowed → (b .records < 512) × (b .grants < 65535)
+room-there : (b : Book) (x y way colour crew : ℕ) → verdictByEnds b x y way colour crew ≡ verdict.Allowed
+    → (b .records < 512) × (b .grants < 65535)
 unfolding verdictByEnds
-room-there b x y way colour e =
+room-there b x y way colour crew e =
     let room = roomVerdict (b .records) (b .grants) in
     let held = refuseIf (conflictIn (recordsOf b) (wayOf way) (requestOf x y) colour) ColourHeld in
     good-room (b .records) (b .grants)
-    (both-allowed held room (both-allowed (argumentVerdict (b .n) (b .w) x y way colour) (orElse held room) e .1) .1)
+    (both-allowed held room (both-allowed (argumentVerdict (b .n) (b .w) x y way colour crew) (orElse held room) e .1) .1)
 
-module _ (b : Book) (x y way colour : ℕ) where
-  pub verdict-means : Valid b → verdictByEnds b x y way colour ≡ grantVerdict b x y way colour
+module _ (b : Book) (x y way colour crew : ℕ) where
+  pub verdict-means : Valid b → verdictByEnds b x y way colour crew ≡ grantVerdict b x y way colour crew
   unfolding verdictByEnds grantVerdict
   verdict-means v =
-      or-else-same (argumentVerdict (b .n) (b .w) x y way colour) _ _ (λ e.
-      let g : GoodArguments (b .n) (b .w) x y way colour = good-arguments (b .n) (b .w) x y way colour e in
+      or-else-same (argumentVerdict (b .n) (b .w) x y way colour crew) _ _ (λ e.
+      let g : GoodArguments (b .n) (b .w) x y way colour crew = good-arguments (b .n) (b .w) x y way colour crew e in
       ap (λ (t : Bool). orElse (refuseIf t ColourHeld) (roomVerdict (b .records) (b .grants)))
       (conflict-means b v (wayOf way) (requestOf x y) colour (g .ordered) (g .nodes)))
 
   -- the promise, from the answer that a verdict by ends leads to
   abbrev made : Granted → Verdict → Type 0
-  made r v = r ≡ grantUnless v b (circuitOf (b .grants + 1) x y way colour)
+  made r v = r ≡ grantUnless v b (circuitOf (b .grants + 1) x y way colour crew)
 
-  promise : (r : Granted) → made r (verdictByEnds b x y way colour) → GrantPromise b x y way colour r
+  promise : (r : Granted) → made r (verdictByEnds b x y way colour crew) → GrantPromise b x y way colour crew r
   unfolding verdictByEnds granted
   promise r m = record {
     arguments = λ ground e. m
@@ -66,22 +67,22 @@ module _ (b : Book) (x y way colour : ℕ) where
         grantUnless (orElse t
         (orElse (refuseIf (conflictIn (recordsOf b) (wayOf way) (requestOf x y) colour) ColourHeld)
         (roomVerdict (b .records) (b .grants)))) b
-        (circuitOf (b .grants + 1) x y way colour)) e;
-    valid = λ v. m ∙ ap (λ (t : Verdict). grantUnless t b (circuitOf (b .grants + 1) x y way colour)) (verdict-means v);
+        (circuitOf (b .grants + 1) x y way colour crew)) e;
+    valid = λ v. m ∙ ap (λ (t : Verdict). grantUnless t b (circuitOf (b .grants + 1) x y way colour crew)) (verdict-means v);
   }
 
-  pub grant-refused : (v : Verdict) (r : Refusal) → v ≡ verdictByEnds b x y way colour → v ≡ verdict.Refused r
-      → GrantPromise b x y way colour (record { answer = answer.Refused r; book = b })
-  grant-refused v r e f = promise _ (ap (λ (t : Verdict). grantUnless t b (circuitOf (b .grants + 1) x y way colour)) (sym f ∙ e))
+  pub grant-refused : (v : Verdict) (r : Refusal) → v ≡ verdictByEnds b x y way colour crew → v ≡ verdict.Refused r
+      → GrantPromise b x y way colour crew (record { answer = answer.Refused r; book = b })
+  grant-refused v r e f = promise _ (ap (λ (t : Verdict). grantUnless t b (circuitOf (b .grants + 1) x y way colour crew)) (sym f ∙ e))
 
-  pub grant-allowed : (v : Verdict) (serial : ℕ) (c : Circuit) (d : Book) → v ≡ verdictByEnds b x y way colour → v ≡ verdict.Allowed
-      → serial ≡ nextSerial (b .grants) → c ≡ circuitOf serial x y way colour → d ≡ entered b c
-      → GrantPromise b x y way colour (record { answer = answer.Granted serial; book = d })
+  pub grant-allowed : (v : Verdict) (serial : ℕ) (c : Circuit) (d : Book) → v ≡ verdictByEnds b x y way colour crew → v ≡ verdict.Allowed
+      → serial ≡ nextSerial (b .grants) → c ≡ circuitOf serial x y way colour crew → d ≡ entered b c
+      → GrantPromise b x y way colour crew (record { answer = answer.Granted serial; book = d })
   grant-allowed v serial c d e f g h k =
       let allowed = sym e ∙ f in
-      let room = room-there b x y way colour allowed in
+      let room = room-there b x y way colour crew allowed in
       let given : serial ≡ b .grants + 1 = g ∙ next-serial (b .grants) (room .1) in
-      let new : c ≡ circuitOf (b .grants + 1) x y way colour = h ∙ ap (λ (s : ℕ). circuitOf s x y way colour) given in
-      let with-new : d ≡ withCircuit b (circuitOf (b .grants + 1) x y way colour) = k ∙ entered-with b c (room .0) (room .1)
+      let new : c ≡ circuitOf (b .grants + 1) x y way colour crew = h ∙ ap (λ (s : ℕ). circuitOf s x y way colour crew) given in
+      let with-new : d ≡ withCircuit b (circuitOf (b .grants + 1) x y way colour crew) = k ∙ entered-with b c (room .0) (room .1)
       ∙ ap (withCircuit b) new in
       promise _ (rw (given, with-new, allowed) refl)

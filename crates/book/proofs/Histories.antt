@@ -22,10 +22,10 @@ use Rattle.book.specs.declared.confirmations.ConfirmAnswer.the-variants 
 use Rattle.book.specs.Circuits.{liveState, asPending, circuit}
 use Rattle.book.specs.Books.{recordsOf, liveIn, liveOf, bookOf, Valid}
 use Rattle.book.specs.Grants.{circuitOf, grantVerdict, withCircuit, grantUnless, granted}
-use Rattle.book.specs.Orders.{shown}
+use Rattle.book.specs.Orders.{shownTo}
 use Rattle.book.specs.Removals.{withRecord}
 use Rattle.book.specs.Confirmations.{without, withoutCircuit}
-use Rattle.book.specs.Holders.{heldBy}
+use Rattle.book.specs.Holders.{heldFor}
 use Rattle.book.specs.History.{Call, Grant, Remove, Confirm, Show, Holder, Event, GrantAnswered, RemoveAnswered, ConfirmAnswered}
 use Rattle.book.specs.History.{ShowAnswered, HolderAnswered, event, after, run, history, Gives, gave, removes, confirms, given}
 use Rattle.book.specs.History.{removals, confirmations, downFrom}
@@ -89,17 +89,17 @@ module _ (n w : ℕ) (h : List Event) (b : Book) (k : Kept n w h b) where
       ap (λ (x : Book). length (liveOf x)) e ∙ ap (λ (l : List Circuit). length (liveIn l)) (records-form (b .n) (b .w) g ds)
 
   -- an accepted grant
-  kept-granted : (x y way colour : ℕ) → GoodGrant b x y way colour
-      → Kept n w (GrantAnswered x y way colour (grant.Granted (b .grants + 1)) ∷ h)
-      (withCircuit b (circuitOf (b .grants + 1) x y way colour))
-  kept-granted x y way colour g = record {
+  kept-granted : (x y way colour crew : ℕ) → GoodGrant b x y way colour crew
+      → Kept n w (GrantAnswered x y way colour crew (grant.Granted (b .grants + 1)) ∷ h)
+      (withCircuit b (circuitOf (b .grants + 1) x y way colour crew))
+  kept-granted x y way colour crew g = record {
     valid = valid;
     nodes = k .nodes;
     colours = k .colours;
     grants = ap (λ (m : ℕ). m + 1) (k .grants) ∙ add-one (length (given h));
     orders = one-order h b d _ (b .grants + 1) (IsLive c) (k .orders)
         (form (b .grants + 1) ∙ grant-stands (b .n) (b .w) (b .grants) cs (k .valid .circuits) c refl)
-        (agrees-granted h (b .grants + 1) x y way colour
+        (agrees-granted h (b .grants + 1) x y way colour crew
         (subst (Agrees h (b .grants + 1)) (unknown-next (b .grants) cs) (k .orders (b .grants + 1))))
         (λ s q. form s ∙ grant-others (b .n) (b .w) (b .grants) cs (k .valid .circuits) c s refl q)
         (λ s q. record { no-grant = q; no-gift = λ z p. eqb-false (b .grants + 1) s q (p .0); no-removal = refl; no-confirmation = refl });
@@ -111,13 +111,13 @@ module _ (n w : ℕ) (h : List Event) (b : Book) (k : Kept n w h b) where
   }
     where
       c : Circuit
-      c = circuitOf (b .grants + 1) x y way colour
+      c = circuitOf (b .grants + 1) x y way colour crew
 
       d : Book
       d = withCircuit b c
 
       valid : Valid d
-      valid = with-valid b (k .valid) x y way colour g
+      valid = with-valid b (k .valid) x y way colour crew g
 
       with-c : d ≡ bookOf (b .n) (b .w) (b .grants + 1) (cs ++ (c ∷ []))
       with-c = with-form b (k .valid) c (omega (arith, valid-records b (k .valid), g .places))
@@ -218,14 +218,15 @@ nothing e s g r c f = record { no-grant = g; no-gift = f; no-removal = r; no-con
 
 kept-after : (n w : ℕ) (h : List Event) (b : Book) → Kept n w h b → (call : Call) → Kept n w (event b call ∷ h) (after b call)
 unfolding granted
-kept-after n w h b k (Grant x y way colour) = go (grantVerdict b x y way colour) (good-grant b x y way colour)
+kept-after n w h b k (Grant x y way colour crew) = go (grantVerdict b x y way colour crew) (good-grant b x y way colour crew)
   where
-    go : (t : Verdict) → (t ≡ verdict.Allowed → GoodGrant b x y way colour)
-        → Kept n w (GrantAnswered x y way colour (grantUnless t b (circuitOf (b .grants + 1) x y way colour) .answer) ∷ h)
-        (grantUnless t b (circuitOf (b .grants + 1) x y way colour) .book)
-    go verdict.Allowed g = kept-granted n w h b k x y way colour (g refl)
+    go : (t : Verdict) → (t ≡ verdict.Allowed → GoodGrant b x y way colour crew)
+        → Kept n w (GrantAnswered x y way colour crew (grantUnless t b (circuitOf (b .grants + 1) x y way colour crew) .answer) ∷ h)
+        (grantUnless t b (circuitOf (b .grants + 1) x y way colour crew) .book)
+    go verdict.Allowed g = kept-granted n w h b k x y way colour crew (g refl)
     go (verdict.Refused r) g =
-        kept-same n w h b k (GrantAnswered x y way colour (grant.Refused r)) refl refl refl (λ s. nothing _ s refl refl refl (λ c p. p))
+        kept-same n w h b k (GrantAnswered x y way colour crew (grant.Refused r)) refl refl refl
+        (λ s. nothing _ s refl refl refl (λ c p. p))
 kept-after n w h b k (Remove s) =
     removal-cases b s (λ d. Kept n w (RemoveAnswered s (d .answer) ∷ h) (d .book))
     (λ i l serial live.
@@ -238,10 +239,11 @@ kept-after n w h b k (Confirm s) =
     subst (λ (r : ℕ). Kept n w (ConfirmAnswered r confirm.Confirmed ∷ h) (withoutCircuit i b)) serial
     (kept-confirmed n w h b k i l pending))
     (λ r. kept-same n w h b k (ConfirmAnswered s (confirm.Refused r)) refl refl refl (λ t. nothing _ t refl refl refl (λ c p. p)))
-kept-after n w h b k (Show s) =
-    kept-same n w h b k (ShowAnswered s (shown b s)) refl refl refl (λ t. nothing _ t refl refl refl (λ c p. p))
-kept-after n w h b k (Holder link colour) =
-    kept-same n w h b k (HolderAnswered link colour (heldBy b link colour)) refl refl refl (λ t. nothing _ t refl refl refl (λ c p. p))
+kept-after n w h b k (Show s crew) =
+    kept-same n w h b k (ShowAnswered s crew (shownTo crew b s)) refl refl refl (λ t. nothing _ t refl refl refl (λ c p. p))
+kept-after n w h b k (Holder link colour crew) =
+    kept-same n w h b k (HolderAnswered link colour crew (heldFor crew b link colour)) refl refl refl
+    (λ t. nothing _ t refl refl refl (λ c p. p))
 
 pub kept-run : (n w : ℕ) → ringVerdict n w ≡ verdict.Allowed → (calls : List Call)
     → Kept n w (history (bookOf n w 0 []) calls) (run (bookOf n w 0 []) calls)

@@ -1,6 +1,6 @@
 -- The laws that the functions' proofs cite, and the theorems whose statements stand in specs/:
 -- Sameness (SameMeans), ConflictLaws (ConflictMeans), Validity (KeepsValid), PreviewLaws (PreviewSays), PlaceLaws (PlacesUsedAgain),
--- NoNodeLaws (TurnsAllDown), EveryHistory.
+-- NoNodeLaws (TurnsAllDown), EveryHistory, Readings (DeskReads, Isolation).
 pub mod Places
 pub mod Forms
 pub mod States
@@ -9,7 +9,7 @@ pub mod CircuitLists
 pub mod Opening
 pub mod Lookups
 pub mod Outcomes
-pub mod Pendings
+pub mod Marks
 pub mod Shifts
 pub mod Searches
 pub mod Lending
@@ -29,3 +29,4 @@ pub mod NoNodeLaws
 pub mod PlaceLaws
 pub mod Histories
 pub mod EveryHistory
+pub mod Readings

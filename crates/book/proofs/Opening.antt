@@ -54,6 +54,7 @@ opened-valid n w e =
         rising = λ i j k h. absurd (omega arith);
         ends = λ i h. absurd (omega arith);
         colours = λ i h. absurd (omega arith);
+        crews = λ i h. absurd (omega arith);
         apart = λ i j k h. absurd (omega arith);
       };
     }

@@ -10,7 +10,7 @@ use lib.ListN.{length, set, replicate, length-append, length-set, length-replica
 use lib.Seq.{getD-append-add, getD-set-same, getD-set-other}
 use borrow.Author.Tests.{ne-eqb, leb-true}
 use Rattle.ring.specs.declared.refusals.Refusal.the-variants.{CircuitEnd, CircuitEndsEqual, WayNumber, ColourNumber, ColourHeld, BookFull}
-use Rattle.ring.specs.declared.refusals.Refusal.the-variants.{SerialsUsedUp}
+use Rattle.ring.specs.declared.refusals.Refusal.the-variants.{SerialsUsedUp, CrewNumber}
 use Rattle.ring.specs.declared.refusals.Verdict.{Verdict}
 use Rattle.ring.specs.declared.refusals.Verdict.the-variants as verdict
 use Rattle.ring.specs.Requests.{requestOf}
@@ -23,6 +23,7 @@ use Rattle.book.specs.declared.books.Book.{Book}
 use Rattle.book.specs.declared.grants.GrantAnswer.the-variants as grant
 use Rattle.book.specs.declared.confirmations.ConfirmAnswer.the-variants as confirm
 use Rattle.book.specs.Circuits.{vacant, asPending, circuit}
+use Rattle.book.specs.Crews.{crewVerdict}
 use Rattle.book.specs.Books.{recordsOf, Valid}
 use Rattle.book.specs.Grants.{wayOf, circuitOf, colourHeld, argumentVerdict, roomVerdict, grantVerdict, withCircuit, grantUnless}
 use Rattle.book.specs.Grants.{granted}
@@ -81,18 +82,21 @@ module _ (b : Book) (v : Valid b) where
   }
 
 module _ (b : Book) (v : Valid b) where
-  takes : (x y way colour serial : ℕ) → granted b x y way colour .answer ≡ grant.Granted serial
-      → TakesVacantPlace b (granted b x y way colour .book) (circuitOf serial x y way colour)
+  takes : (x y way colour crew serial : ℕ) → granted b x y way colour crew .answer ≡ grant.Granted serial
+      → TakesVacantPlace b (granted b x y way colour crew .book) (circuitOf serial x y way colour crew)
   unfolding granted
-  takes x y way colour serial e = go (grantVerdict b x y way colour) refl e
+  takes x y way colour crew serial e = go (grantVerdict b x y way colour crew) refl e
     where
-      go : (t : Verdict) → grantVerdict b x y way colour ≡ t
-          → grantUnless t b (circuitOf (b .grants + 1) x y way colour) .answer ≡ grant.Granted serial
-          → TakesVacantPlace b (grantUnless t b (circuitOf (b .grants + 1) x y way colour) .book) (circuitOf serial x y way colour)
+      go : (t : Verdict) → grantVerdict b x y way colour crew ≡ t
+          → grantUnless t b (circuitOf (b .grants + 1) x y way colour crew) .answer ≡ grant.Granted serial
+          → TakesVacantPlace b (grantUnless t b (circuitOf (b .grants + 1) x y way colour crew) .book)
+          (circuitOf serial x y way colour crew)
       go verdict.Allowed q f =
           let s : b .grants + 1 ≡ serial = cc in
-          subst (λ (k : ℕ). TakesVacantPlace b (withCircuit b (circuitOf (b .grants + 1) x y way colour)) (circuitOf k x y way colour)) s
-          (with-place b v (circuitOf (b .grants + 1) x y way colour) (good-grant b x y way colour q .places))
+          subst
+          (λ (k : ℕ). TakesVacantPlace b (withCircuit b (circuitOf (b .grants + 1) x y way colour crew))
+          (circuitOf k x y way colour crew)) s
+          (with-place b v (circuitOf (b .grants + 1) x y way colour crew) (good-grant b x y way colour crew q .places))
       go (verdict.Refused r) q f = impossible (cc)
 
   -- a removal leaves as many records
@@ -131,13 +135,14 @@ module _ (b : Book) (v : Valid b) where
       (λ i h named pending e. one-less i h) (λ r e. impossible (cc))
 
 -- 12 is said only by the test for places
-full-argument : (n w x y way colour : ℕ) → argumentVerdict n w x y way colour ≡ verdict.Refused BookFull → ⊥
-unfolding argumentVerdict endsVerdict
-full-argument n w x y way colour e =
+full-argument : (n w x y way colour crew : ℕ) → argumentVerdict n w x y way colour crew ≡ verdict.Refused BookFull → ⊥
+unfolding argumentVerdict endsVerdict crewVerdict
+full-argument n w x y way colour crew e =
     let outside = refuseIf (leb n x || leb n y) CircuitEnd in
     let equal = refuseIf (eqb x y) CircuitEndsEqual in
     let ways = refuseIf (ltb 1 way) WayNumber in
     let colours = refuseIf (leb w colour) ColourNumber in
+    let crews = refuseIf (ltb 999 crew) CrewNumber in
     ⊎-elim
     (λ p. ⊎-elim
     (λ q. let g = refuse-refused (leb n x || leb n y) CircuitEnd BookFull q in impossible (cc))
@@ -145,9 +150,12 @@ full-argument n w x y way colour e =
     (either-refused outside equal BookFull p))
     (λ p. ⊎-elim
     (λ q. let g = refuse-refused (ltb 1 way) WayNumber BookFull q in impossible (cc))
-    (λ q. let g = refuse-refused (leb w colour) ColourNumber BookFull q in impossible (cc))
-    (either-refused ways colours BookFull p))
-    (either-refused (orElse outside equal) (orElse ways colours) BookFull e)
+    (λ q. ⊎-elim
+    (λ r. let g = refuse-refused (leb w colour) ColourNumber BookFull r in impossible (cc))
+    (λ r. let g = refuse-refused (ltb 999 crew) CrewNumber BookFull r in impossible (cc))
+    (either-refused colours crews BookFull q))
+    (either-refused ways (orElse colours crews) BookFull p))
+    (either-refused (orElse outside equal) (orElse ways (orElse colours crews)) BookFull e)
 
 full-room : (records grants : ℕ) → roomVerdict records grants ≡ verdict.Refused BookFull → 512 ≤ records
 unfolding roomVerdict
@@ -157,26 +165,26 @@ full-room records grants e =
     (λ p. let g = refuse-refused (leb 65535 grants) SerialsUsedUp BookFull p in impossible (cc))
     (either-refused (refuseIf (leb 512 records) BookFull) (refuseIf (leb 65535 grants) SerialsUsedUp) BookFull e)
 
-full-verdict : (b : Book) (x y way colour : ℕ) → grantVerdict b x y way colour ≡ verdict.Refused BookFull → 512 ≤ b .records
+full-verdict : (b : Book) (x y way colour crew : ℕ) → grantVerdict b x y way colour crew ≡ verdict.Refused BookFull → 512 ≤ b .records
 unfolding grantVerdict
-full-verdict b x y way colour e =
+full-verdict b x y way colour crew e =
     let held = colourHeld b (wayOf way) (requestOf x y) colour in
     let room = roomVerdict (b .records) (b .grants) in
     ⊎-elim
-    (λ p. absurd (full-argument (b .n) (b .w) x y way colour p))
+    (λ p. absurd (full-argument (b .n) (b .w) x y way colour crew p))
     (λ p. ⊎-elim
     (λ q. let g = refuse-refused held ColourHeld BookFull q in impossible (cc))
     (full-room (b .records) (b .grants))
     (either-refused (refuseIf held ColourHeld) room BookFull p))
-    (either-refused (argumentVerdict (b .n) (b .w) x y way colour) (orElse (refuseIf held ColourHeld) room) BookFull e)
+    (either-refused (argumentVerdict (b .n) (b .w) x y way colour crew) (orElse (refuseIf held ColourHeld) room) BookFull e)
 
-full : (b : Book) → Valid b → (x y way colour : ℕ) → granted b x y way colour .answer ≡ grant.Refused BookFull
+full : (b : Book) → Valid b → (x y way colour crew : ℕ) → granted b x y way colour crew .answer ≡ grant.Refused BookFull
     → vacantPlaces (b .places) ≡ 0
 unfolding granted
-full b v x y way colour e =
-    omega (arith, vacant-count b v, valid-records b v, full-verdict b x y way colour (go (grantVerdict b x y way colour) e))
+full b v x y way colour crew e =
+    omega (arith, vacant-count b v, valid-records b v, full-verdict b x y way colour crew (go (grantVerdict b x y way colour crew) e))
   where
-    go : (t : Verdict) → grantUnless t b (circuitOf (b .grants + 1) x y way colour) .answer ≡ grant.Refused BookFull
+    go : (t : Verdict) → grantUnless t b (circuitOf (b .grants + 1) x y way colour crew) .answer ≡ grant.Refused BookFull
         → t ≡ verdict.Refused BookFull
     go verdict.Allowed q = impossible (cc)
     go (verdict.Refused r) q = cc

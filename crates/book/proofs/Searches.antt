@@ -10,10 +10,10 @@ use borrow.Author.Tests.{lt-ltb, le-ltb}
 use Rattle.book.specs.declared.circuits.Circuit.{Circuit}
 use Rattle.book.specs.declared.books.Book.{Book}
 use Rattle.book.specs.declared.holders.HolderAnswer.{HolderAnswer}
-use Rattle.book.specs.declared.holders.HolderAnswer.the-variants.{Free, Held}
+use Rattle.book.specs.declared.holders.HolderAnswer.the-variants.{Free}
 use Rattle.book.specs.Circuits.{vacant, isLive, circuit, someCircuit, holds}
 use Rattle.book.specs.Books.{recordsOf, liveIn}
-use Rattle.book.specs.Holders.{holderIn}
+use Rattle.book.specs.Holders.{toldTo, holderIn}
 use Rattle.book.specs.Internal.Places.{holderPlace}
 use Rattle.book.proofs.Places.{list-next, next, none-left}
 use Rattle.book.proofs.States.{live-next}
@@ -66,10 +66,7 @@ module _ (cs : List Circuit) (link colour i : ℕ) where
   unfolding holderPlace
   holder-ended h = rw (drop-of-length-le cs h)
 
--- the holder's serial stands at the holder's place
-abbrev answerAt : List Circuit → ℕ → ℕ → HolderAnswer
-answerAt cs i place = cond (ltb place (i + length cs)) (Held (circuit cs (place - i) .serial)) Free
-
+-- what a crew learns stands at the holder's place
 place-from : (cs : List Circuit) (link colour i : ℕ) → i ≤ holderPlace i cs link colour
 unfolding holderPlace
 place-from [] link colour i = omega arith
@@ -79,25 +76,29 @@ place-from (c ∷ cs) link colour i = go (holds c link colour) (place-from cs li
     go true h = omega arith
     go false h = omega arith
 
-answer-next : (c : Circuit) (cs : List Circuit) (i place : ℕ) → i + 1 ≤ place → answerAt cs (i + 1) place ≡ answerAt (c ∷ cs) i place
-answer-next c cs i place h =
-    let e₁ : i + 1 + length cs ≡ i + length (c ∷ cs) = omega arith in
-    let e₂ : suc (place - (i + 1)) ≡ place - i = omega arith in
-    ap (λ (m : ℕ). cond (ltb place m) (Held (circuit cs (place - (i + 1)) .serial)) Free) e₁
-    ∙ ap (λ (k : ℕ). cond (ltb place (i + length (c ∷ cs))) (Held (circuit (c ∷ cs) k .serial)) Free) e₂
+module _ (crew : ℕ) where
+  abbrev answerAt : List Circuit → ℕ → ℕ → HolderAnswer
+  answerAt cs i place = cond (ltb place (i + length cs)) (toldTo crew (circuit cs (place - i))) Free
 
-answer-first : (c : Circuit) (cs : List Circuit) (i : ℕ) → Held (c .serial) ≡ answerAt (c ∷ cs) i i
-answer-first c cs i =
-    let e : 0 ≡ i - i = omega arith in
-    let t : ltb i (i + length (c ∷ cs)) ≡ true = lt-ltb i (i + length (c ∷ cs)) (omega arith) in
-    ap (λ (k : ℕ). Held (circuit (c ∷ cs) k .serial)) e ∙ ap (λ (s : Bool). cond s (Held (circuit (c ∷ cs) (i - i) .serial)) Free) (sym t)
+  answer-next : (c : Circuit) (cs : List Circuit) (i place : ℕ) → i + 1 ≤ place → answerAt cs (i + 1) place ≡ answerAt (c ∷ cs) i place
+  answer-next c cs i place h =
+      let e₁ : i + 1 + length cs ≡ i + length (c ∷ cs) = omega arith in
+      let e₂ : suc (place - (i + 1)) ≡ place - i = omega arith in
+      ap (λ (m : ℕ). cond (ltb place m) (toldTo crew (circuit cs (place - (i + 1)))) Free) e₁
+      ∙ ap (λ (k : ℕ). cond (ltb place (i + length (c ∷ cs))) (toldTo crew (circuit (c ∷ cs) k)) Free) e₂
 
-pub holder-answer : (cs : List Circuit) (link colour i : ℕ) → holderIn cs link colour ≡ answerAt cs i (holderPlace i cs link colour)
-unfolding holderIn holderPlace
-holder-answer [] link colour i = ap (λ (t : Bool). cond t (Held (circuit [] (i - i) .serial)) Free) (sym (le-ltb i (i + 0) (omega arith)))
-holder-answer (c ∷ cs) link colour i = go (holds c link colour) (holder-answer cs link colour (i + 1))
-  where
-    go : (t : Bool) → holderIn cs link colour ≡ answerAt cs (i + 1) (holderPlace (i + 1) cs link colour)
-        → cond t (Held (c .serial)) (holderIn cs link colour) ≡ answerAt (c ∷ cs) i (cond t i (holderPlace (i + 1) cs link colour))
-    go true e = answer-first c cs i
-    go false e = e ∙ answer-next c cs i (holderPlace (i + 1) cs link colour) (place-from cs link colour (i + 1))
+  answer-first : (c : Circuit) (cs : List Circuit) (i : ℕ) → toldTo crew c ≡ answerAt (c ∷ cs) i i
+  answer-first c cs i =
+      let e : 0 ≡ i - i = omega arith in
+      let t : ltb i (i + length (c ∷ cs)) ≡ true = lt-ltb i (i + length (c ∷ cs)) (omega arith) in
+      ap (λ (k : ℕ). toldTo crew (circuit (c ∷ cs) k)) e ∙ ap (λ (s : Bool). cond s (toldTo crew (circuit (c ∷ cs) (i - i))) Free) (sym t)
+
+  pub holder-answer : (cs : List Circuit) (link colour i : ℕ) → holderIn crew cs link colour ≡ answerAt cs i (holderPlace i cs link colour)
+  unfolding holderIn holderPlace
+  holder-answer [] link colour i = ap (λ (t : Bool). cond t (toldTo crew (circuit [] (i - i))) Free) (sym (le-ltb i (i + 0) (omega arith)))
+  holder-answer (c ∷ cs) link colour i = go (holds c link colour) (holder-answer cs link colour (i + 1))
+    where
+      go : (t : Bool) → holderIn crew cs link colour ≡ answerAt cs (i + 1) (holderPlace (i + 1) cs link colour)
+          → cond t (toldTo crew c) (holderIn crew cs link colour) ≡ answerAt (c ∷ cs) i (cond t i (holderPlace (i + 1) cs link colour))
+      go true e = answer-first c cs i
+      go false e = e ∙ answer-next c cs i (holderPlace (i + 1) cs link colour) (place-from cs link colour (i + 1))

@@ -115,7 +115,7 @@ without-other : (cs : List Circuit) (at s : ℕ) → at < length cs → (circuit
 without-other cs at s h d = ap (λ (k : ℕ). standingIn (take at cs ++ drop k cs) s) (add-one at) ∙ drop-other cs at s h d
 
 -- a serial that a record has was given; one above the grants was not
-given-not : (g s : ℕ) → 1 ≤ s → s ≤ g → neverGiven g s ≡ false
+pub given-not : (g s : ℕ) → 1 ≤ s → s ≤ g → neverGiven g s ≡ false
 unfolding neverGiven
 given-not g s h₁ h₂ = ap (λ (t : Bool). t || ltb g s) (ne-eqb s 0 (λ e. omega arith)) ∙ le-ltb g s h₂
 

@@ -96,6 +96,7 @@ alike-valid n w g cs ds e v =
       ends = λ i h. rw (ap (λ (c : Circuit). c .a) (alike-at cs ds e i), ap (λ (c : Circuit). c .b) (alike-at cs ds e i))
           (v .ends i (omega arith));
       colours = λ i h. rw (ap (λ (c : Circuit). c .colour) (alike-at cs ds e i)) (v .colours i (omega arith));
+      crews = λ i h. rw (ap (λ (c : Circuit). c .crew) (alike-at cs ds e i)) (v .crews i (omega arith));
       apart = λ i j k h link colour l t. sym (held-alike j link colour)
           ∙ v .apart i j k (omega arith) link colour l (held-alike i link colour ∙ t);
     }

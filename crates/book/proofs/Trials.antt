@@ -48,7 +48,7 @@ module _ (b : Book) (count : ℕ) (ls : List Line) where
 
   -- a ground that lies in the arguments of the first line
   abbrev first-verdict : Verdict
-  first-verdict = argumentVerdict (b .n) (b .w) (line ls 0 .x) (line ls 0 .y) (line ls 0 .way) (line ls 0 .colour)
+  first-verdict = argumentVerdict (b .n) (b .w) (line ls 0 .x) (line ls 0 .y) (line ls 0 .way) (line ls 0 .colour) (line ls 0 .crew)
 
   -- the lines before i are granted
   pub record Trial (i : ℕ) (copy : Book) (serials : List ℕ) : Type 0 where
@@ -112,16 +112,16 @@ module _ (b : Book) (count : ℕ) (ls : List Line) where
         })
 
     module _ (h : i < count) (g : Granted)
-        (promise : GrantPromise copy (line ls i .x) (line ls i .y) (line ls i .way) (line ls i .colour) g) where
+        (promise : GrantPromise copy (line ls i .x) (line ls i .y) (line ls i .way) (line ls i .colour) (line ls i .crew) g) where
       -- line i stands before the lines that are left
       abbrev rest : List Line
       rest = drop (i + 1) all
 
       next : drop i all ≡ line ls i ∷ rest
       next =
-          drop-next all i (record { x = 0; y = 0; way = 0; colour = 0 }) (omega (arith, length-take count ls, within, t .full))
+          drop-next all i (record { x = 0; y = 0; way = 0; colour = 0; crew = 0 }) (omega (arith, length-take count ls, within, t .full))
           ∙ ap (λ (l : Line). l ∷ rest)
-          (getD-take count ls i (record { x = 0; y = 0; way = 0; colour = 0 }) h)
+          (getD-take count ls i (record { x = 0; y = 0; way = 0; colour = 0; crew = 0 }) h)
 
       same : Valid b → g ≡ grantedLine copy (line ls i)
       same v = promise .valid (t .kept v)
@@ -155,7 +155,7 @@ module _ (b : Book) (count : ℕ) (ls : List Line) where
                 ∙ fewer-zeros (16 - i) ∙ ap (λ (k : ℕ). replicate k 0) left;
             first = λ r f. let z = sym e ∙ refused-first r f in let y : _≡_ {A = ℕ} 0 1 = cc in absurd (omega arith);
             kept = λ v. subst (λ (x : Granted). Valid (x .book)) (sym (same v))
-                (grant-valid copy (t .kept v) (line ls i .x) (line ls i .y) (line ls i .way) (line ls i .colour));
+                (grant-valid copy (t .kept v) (line ls i .x) (line ls i .y) (line ls i .way) (line ls i .colour) (line ls i .crew));
             given = λ v. ap (λ (xs : List ℕ). xs ++ serialsFor (g .book) rest) front
                 ∙ append-snoc (take i serials) s (serialsFor (g .book) rest)
                 ∙ given-by v (grant.Granted s) e;

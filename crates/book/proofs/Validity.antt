@@ -44,10 +44,10 @@ valid-of n w g cs hn hw hg v =
 
 -- a new circuit with the next serial, and with no colour on a link that another one holds
 pub snoc-valid : (n w g : ℕ) (cs : List Circuit) (c : Circuit) → ValidCircuits n w g cs → length cs < 512 → c .serial ≡ g + 1 → c .a < c .b
-    → c .b < n → c .colour < w
+    → c .b < n → c .colour < w → c .crew ≤ 999
     → ((i : ℕ) → i < length cs → (link colour : ℕ) → link < n → holds (circuit cs i) link colour ≡ true → holds c link colour ≡ false)
     → ValidCircuits n w (g + 1) (cs ++ (c ∷ []))
-snoc-valid n w g cs c v room e h₁ h₂ h₃ new =
+snoc-valid n w g cs c v room e h₁ h₂ h₃ h₄ new =
     record {
       room = omega (arith, snoc-length cs c);
       given = all-snoc cs c (λ x. (1 ≤ x .serial) × (x .serial ≤ g + 1)) (λ i h. let p = v .given i h in (p .0, omega arith))
@@ -55,6 +55,7 @@ snoc-valid n w g cs c v room e h₁ h₂ h₃ new =
       rising = pairs-snoc cs c (λ x y. x .serial < y .serial) (v .rising) (λ i h. let p = v .given i h in omega arith);
       ends = all-snoc cs c (λ x. (x .a < x .b) × (x .b < n)) (v .ends) (h₁, h₂);
       colours = all-snoc cs c (λ x. x .colour < w) (v .colours) h₃;
+      crews = all-snoc cs c (λ x. x .crew ≤ 999) (v .crews) h₄;
       apart = pairs-snoc cs c (λ x y. (link colour : ℕ) → link < n → holds x link colour ≡ true → holds y link colour ≡ false)
           (v .apart) new;
     }
@@ -68,19 +69,20 @@ without-valid n w g cs at v l =
       rising = pairs-without cs at l (λ x y. x .serial < y .serial) (v .rising);
       ends = all-without cs at l (λ x. (x .a < x .b) × (x .b < n)) (λ i h d. v .ends i h);
       colours = all-without cs at l (λ x. x .colour < w) (λ i h d. v .colours i h);
+      crews = all-without cs at l (λ x. x .crew ≤ 999) (λ i h d. v .crews i h);
       apart = pairs-without cs at l (λ x y. (link colour : ℕ) → link < n → holds x link colour ≡ true → holds y link colour ≡ false)
           (v .apart);
     }
 
 module _ (b : Book) (v : Valid b) where
   -- ground 11 is not there: the new circuit holds nothing that a record holds
-  new-apart : (s x y way colour : ℕ) → colourHeld b (wayOf way) (requestOf x y) colour ≡ false
+  new-apart : (s x y way colour crew : ℕ) → colourHeld b (wayOf way) (requestOf x y) colour ≡ false
       → (i : ℕ) → i < length (recordsOf b) → (link k : ℕ) → link < b .n → holds (circuit (recordsOf b) i) link k ≡ true
-      → holds (circuitOf s x y way colour) link k ≡ false
+      → holds (circuitOf s x y way colour crew) link k ≡ false
   unfolding colourHeld heldOnWay holds
-  new-apart s x y way colour free i h link k l e = go (holds (circuitOf s x y way colour) link k) refl
+  new-apart s x y way colour crew free i h link k l e = go (holds (circuitOf s x y way colour crew) link k) refl
     where
-      go : (t : Bool) → holds (circuitOf s x y way colour) link k ≡ t → t ≡ false
+      go : (t : Bool) → holds (circuitOf s x y way colour crew) link k ≡ t → t ≡ false
       go false q = refl
       go true q =
           let p = and-true (eqb colour k) (uses (wayOf way) (requestOf x y) link) q in
@@ -91,15 +93,16 @@ module _ (b : Book) (v : Valid b) where
           (holds-held (recordsOf b) link colour i h g) in
           sym f ∙ some-none (b .n) (λ j. uses (wayOf way) (requestOf x y) j && heldIn (recordsOf b) j colour) free link l
 
-  pub with-valid : (x y way colour : ℕ) → GoodGrant b x y way colour → Valid (withCircuit b (circuitOf (b .grants + 1) x y way colour))
-  with-valid x y way colour g =
+  pub with-valid : (x y way colour crew : ℕ) → GoodGrant b x y way colour crew
+      → Valid (withCircuit b (circuitOf (b .grants + 1) x y way colour crew))
+  with-valid x y way colour crew g =
       let room : length (recordsOf b) < 512 = omega (arith, valid-records b v, g .places) in
-      let c : Circuit = circuitOf (b .grants + 1) x y way colour in
+      let c : Circuit = circuitOf (b .grants + 1) x y way colour crew in
       let few : b .grants + 1 ≤ 65535 = omega (arith, g .serials) in
       subst Valid (sym (with-form b v c room))
       (valid-of (b .n) (b .w) (b .grants + 1) (recordsOf b ++ (c ∷ [])) (v .nodes) (v .colours) few
       (snoc-valid (b .n) (b .w) (b .grants) (recordsOf b) c (v .circuits) room refl (g .arguments .ordered) (g .arguments .nodes)
-      (g .arguments .colours) (new-apart (b .grants + 1) x y way colour (g .free))))
+      (g .arguments .colours) (g .arguments .crews) (new-apart (b .grants + 1) x y way colour crew (g .free))))
 
   pub removal-valid : (i : ℕ) → i < length (recordsOf b) → Valid (withRecord i (asPending (circuit (recordsOf b) i)) b)
   removal-valid i h =
@@ -115,13 +118,13 @@ module _ (b : Book) (v : Valid b) where
       (without-valid (b .n) (b .w) (b .grants) (recordsOf b) i (v .circuits) h))
 
   -- the operations
-  pub grant-valid : (x y way colour : ℕ) → Valid (granted b x y way colour .book)
+  pub grant-valid : (x y way colour crew : ℕ) → Valid (granted b x y way colour crew .book)
   unfolding granted
-  grant-valid x y way colour = go (grantVerdict b x y way colour) (good-grant b x y way colour)
+  grant-valid x y way colour crew = go (grantVerdict b x y way colour crew) (good-grant b x y way colour crew)
     where
-      go : (t : Verdict) → (t ≡ verdict.Allowed → GoodGrant b x y way colour)
-          → Valid (grantUnless t b (circuitOf (b .grants + 1) x y way colour) .book)
-      go verdict.Allowed g = with-valid x y way colour (g refl)
+      go : (t : Verdict) → (t ≡ verdict.Allowed → GoodGrant b x y way colour crew)
+          → Valid (grantUnless t b (circuitOf (b .grants + 1) x y way colour crew) .book)
+      go verdict.Allowed g = with-valid x y way colour crew (g refl)
       go (verdict.Refused r) g = v
 
   pub remove-valid : (s : ℕ) → Valid (removed b s .book)

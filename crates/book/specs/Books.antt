@@ -1,7 +1,7 @@
 -- Books in one form: the records, live and pending, by rising serial, vacant ones behind them.
 use Prim.Native.Nat.{ℕ, _-_, _≤_, _<_}
 use mathlib.Core.Path.{_≡_}
-use mathlib.Core.Bool.{Bool, true, false, cond, not}
+use mathlib.Core.Bool.{Bool, true, false, cond}
 use mathlib.Core.List.{List, [], _∷_, _++_}
 use lib.ListN.{length, take, replicate}
 use Rattle.ring.specs.declared.refusals.Verdict.{Verdict}
@@ -13,7 +13,7 @@ use Rattle.book.specs.declared.books.Book.{Book}
 use Rattle.book.specs.declared.books.OpenAnswer.{OpenAnswer}
 use Rattle.book.specs.declared.books.OpenAnswer.the-variants as answer
 use Rattle.book.specs.declared.books.Opened.{Opened}
-use Rattle.book.specs.Circuits.{vacant, isLive, circuit, someCircuit, holds}
+use Rattle.book.specs.Circuits.{vacant, isLive, isMarked, circuit, someCircuit, holds}
 
 -- the records, live and pending: those of the first `records` places
 abbrev pub recordsOf : Book → List Circuit
@@ -37,9 +37,9 @@ liveOf b = liveIn (recordsOf b)
 abbrev pub pendingOf : Book → List Circuit
 pendingOf b = pendingIn (recordsOf b)
 
--- "a book with a pending record"
-unfoldable pub hasPending : Book → Bool
-hasPending b = someCircuit (recordsOf b) (λ c. not (isLive c))
+-- "a book with a pending record" or "with a record whose crew is not 0"
+unfoldable pub hasMarked : Book → Bool
+hasMarked b = someCircuit (recordsOf b) isMarked
 
 -- "n, w, the number of grants so far and 512 places, one circuit record per place", with these records
 abbrev pub bookOf : ℕ → ℕ → ℕ → List Circuit → Book
@@ -57,6 +57,8 @@ pub record ValidCircuits (n w grants : ℕ) (cs : List Circuit) : Type 0 where
   pub ends : (i : ℕ) → i < length cs → (circuit cs i .a < circuit cs i .b) × (circuit cs i .b < n)
   -- "Colours run from 0 to w−1"
   pub colours : (i : ℕ) → i < length cs → circuit cs i .colour < w
+  -- "a crew number, 0 to 999"
+  pub crews : (i : ℕ) → i < length cs → circuit cs i .crew ≤ 999
   -- no two circuits hold one colour on one link
   pub apart : (i j : ℕ) → i < j → j < length cs → (link colour : ℕ) → link < n → holds (circuit cs i) link colour ≡ true
       → holds (circuit cs j) link colour ≡ false
@@ -71,7 +73,8 @@ pub record Valid (b : Book) : Type 0 where
   pub form : b ≡ bookOf (b .n) (b .w) (b .grants) (recordsOf b)
   pub circuits : ValidCircuits (b .n) (b .w) (b .grants) (recordsOf b)
 
--- books "are the same if n, w, grants so far and live circuits agree", and "only if their pending circuits agree too"
+-- books "are the same if n, w, grants so far and live circuits agree", and "only if their pending circuits agree too"; a circuit has its
+-- crew: "Crews count when two books are compared"
 pub record Same (b d : Book) : Type 0 where
   pub nodes : b .n ≡ d .n
   pub colours : b .w ≡ d .w

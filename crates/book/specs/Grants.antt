@@ -26,15 +26,16 @@ use Rattle.book.specs.declared.grants.GrantAnswer.the-variants as answer
 use Rattle.book.specs.declared.grants.Granted.{Granted}
 use Rattle.book.specs.Circuits.{someCircuit, holds}
 use Rattle.book.specs.Books.{recordsOf, Valid}
+use Rattle.book.specs.Crews.{crewVerdict}
 
 -- "way not 0 (plain) or 1 (seam)"
 abbrev pub wayOf : ℕ → Way
 wayOf way = cond (eqb way 0) Plain Seam
 
--- the circuit of a grant, live; its "order of ends has no meaning", the smaller is a
-abbrev pub circuitOf : ℕ → ℕ → ℕ → ℕ → ℕ → Circuit
-circuitOf serial x y way colour =
-    record { serial = serial; a = requestOf x y .a; b = requestOf x y .b; way = wayOf way; colour = colour; state = Live }
+-- the circuit of a grant, live; its "order of ends has no meaning", the smaller is a; it "carries a crew number"
+abbrev pub circuitOf : ℕ → ℕ → ℕ → ℕ → ℕ → ℕ → Circuit
+circuitOf serial x y way colour crew =
+    record { serial = serial; a = requestOf x y .a; b = requestOf x y .b; way = wayOf way; colour = colour; crew = crew; state = Live }
 
 -- some circuit holds the colour on the link
 unfoldable pub heldIn : List Circuit → ℕ → ℕ → Bool
@@ -48,12 +49,13 @@ heldOnWay n cs way r colour = someLink n (λ link. uses way r link && heldIn cs 
 unfoldable pub colourHeld : Book → Way → Request → ℕ → Bool
 colourHeld b way r colour = heldOnWay (b .n) (recordsOf b) way r colour
 
--- "4, 5, 9 way not 0 (plain) or 1 (seam), 10 colour w or more": the grounds that lie in the arguments alone
-unfoldable pub argumentVerdict : ℕ → ℕ → ℕ → ℕ → ℕ → ℕ → Verdict
-argumentVerdict n w x y way colour =
+-- "4, 5, 9 way not 0 (plain) or 1 (seam), 10 colour w or more", and 26 "directly before 11": the grounds that lie in the arguments alone
+unfoldable pub argumentVerdict : ℕ → ℕ → ℕ → ℕ → ℕ → ℕ → ℕ → Verdict
+argumentVerdict n w x y way colour crew =
     orElse (endsVerdict n x y CircuitEnd CircuitEndsEqual)
     (orElse (refuseIf (ltb 1 way) WayNumber)
-    (refuseIf (leb w colour) ColourNumber))
+    (orElse (refuseIf (leb w colour) ColourNumber)
+    (crewVerdict crew)))
 
 -- "12 512 live", and "12 counts both", live and pending; "13 serial 65,535 has been given"
 unfoldable pub roomVerdict : ℕ → ℕ → Verdict
@@ -61,10 +63,10 @@ roomVerdict records grants =
     orElse (refuseIf (leb 512 records) BookFull)
     (refuseIf (leb 65535 grants) SerialsUsedUp)
 
--- 4, 5, 9, 10, "11 that colour is held on a link of the way", 12, 13, "tested in the order written"
-unfoldable pub grantVerdict : Book → ℕ → ℕ → ℕ → ℕ → Verdict
-grantVerdict b x y way colour =
-    orElse (argumentVerdict (b .n) (b .w) x y way colour)
+-- 4, 5, 9, 10, 26, "11 that colour is held on a link of the way", 12, 13, "tested in the order written"
+unfoldable pub grantVerdict : Book → ℕ → ℕ → ℕ → ℕ → ℕ → Verdict
+grantVerdict b x y way colour crew =
+    orElse (argumentVerdict (b .n) (b .w) x y way colour crew)
     (orElse (refuseIf (colourHeld b (wayOf way) (requestOf x y) colour) ColourHeld)
     (roomVerdict (b .records) (b .grants)))
 
@@ -78,8 +80,8 @@ grantUnless verdict.Allowed b c = record { answer = answer.Granted (c .serial); 
 grantUnless (verdict.Refused r) b c = record { answer = answer.Refused r; book = b }
 
 -- "Grant. .. Success gives the serial": one more than the grants so far
-unfoldable pub granted : Book → ℕ → ℕ → ℕ → ℕ → Granted
-granted b x y way colour = grantUnless (grantVerdict b x y way colour) b (circuitOf (b .grants + 1) x y way colour)
+unfoldable pub granted : Book → ℕ → ℕ → ℕ → ℕ → ℕ → Granted
+granted b x y way colour crew = grantUnless (grantVerdict b x y way colour crew) b (circuitOf (b .grants + 1) x y way colour crew)
 
 -- its answer in numbers: "Success gives the serial"
 abbrev pub grantInNumbers : GrantAnswer → InNumbers
@@ -87,9 +89,8 @@ grantInNumbers (answer.Granted serial) = gives (serial ∷ [])
 grantInNumbers (answer.Refused r) = refuses r
 
 -- the promise of grant. The grounds that lie in the arguments are those of any value of the struct; all others, and success, of the books
--- that the rules
--- speak of: 11 is computed by comparing ends, which says nothing of circuits that are not on the book's nodes
-pub record GrantPromise (b : Book) (x y way colour : ℕ) (result : Granted) : Type 0 where
-  pub arguments : (r : Refusal) → argumentVerdict (b .n) (b .w) x y way colour ≡ verdict.Refused r
+-- that the rules speak of: 11 is computed by comparing ends, which says nothing of circuits that are not on the book's nodes
+pub record GrantPromise (b : Book) (x y way colour crew : ℕ) (result : Granted) : Type 0 where
+  pub arguments : (r : Refusal) → argumentVerdict (b .n) (b .w) x y way colour crew ≡ verdict.Refused r
       → result ≡ record { answer = answer.Refused r; book = b }
-  pub valid : Valid b → result ≡ granted b x y way colour
+  pub valid : Valid b → result ≡ granted b x y way colour crew

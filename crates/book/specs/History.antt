@@ -1,4 +1,4 @@
--- What every history of calls from open comes to, said of the calls and their answers.
+-- What every history of calls from open comes to, said of the calls and their answers: "about the desk's reading".
 use Prim.Native.Nat.{ℕ, zero, suc, _+_, _<_}
 use mathlib.Core.Path.{_≡_}
 use mathlib.Core.Bool.{Bool, true, false, _||_}
@@ -26,49 +26,49 @@ use Rattle.book.specs.declared.holders.HolderAnswer.the-variants as hold
 use Rattle.book.specs.Circuits.{endsOf, holds}
 use Rattle.book.specs.Books.{liveOf, Valid, opened}
 use Rattle.book.specs.Grants.{circuitOf, granted}
-use Rattle.book.specs.Orders.{shown}
+use Rattle.book.specs.Orders.{shown, shownTo}
 use Rattle.book.specs.Removals.{removed}
 use Rattle.book.specs.Confirmations.{confirmed}
-use Rattle.book.specs.Holders.{heldBy}
+use Rattle.book.specs.Holders.{heldBy, heldFor}
 
 -- open gives a valid book, and grant, remove and confirm keep it so; the questions give no book
 pub record KeepsValid : Type 0 where
   pub opening : (n w : ℕ) → ringVerdict n w ≡ verdict.Allowed → Valid (opened n w .book)
-  pub granting : (b : Book) → Valid b → (x y way colour : ℕ) → Valid (granted b x y way colour .book)
+  pub granting : (b : Book) → Valid b → (x y way colour crew : ℕ) → Valid (granted b x y way colour crew .book)
   pub removing : (b : Book) → Valid b → (serial : ℕ) → Valid (removed b serial .book)
   pub confirming : (b : Book) → Valid b → (serial : ℕ) → Valid (confirmed b serial .book)
 
 -- a call on a book, with any arguments
 pub data Call : Type 0 where
-  Grant : (x y way colour : ℕ) → Call
+  Grant : (x y way colour crew : ℕ) → Call
   Remove : (serial : ℕ) → Call
   Confirm : (serial : ℕ) → Call
-  Show : (serial : ℕ) → Call
-  Holder : (link colour : ℕ) → Call
+  Show : (serial crew : ℕ) → Call
+  Holder : (link colour crew : ℕ) → Call
 
 -- a call with its answer
 pub data Event : Type 0 where
-  GrantAnswered : (x y way colour : ℕ) → GrantAnswer → Event
+  GrantAnswered : (x y way colour crew : ℕ) → GrantAnswer → Event
   RemoveAnswered : (serial : ℕ) → RemoveAnswer → Event
   ConfirmAnswered : (serial : ℕ) → ConfirmAnswer → Event
-  ShowAnswered : (serial : ℕ) → ShowAnswer → Event
-  HolderAnswered : (link colour : ℕ) → HolderAnswer → Event
+  ShowAnswered : (serial crew : ℕ) → ShowAnswer → Event
+  HolderAnswered : (link colour crew : ℕ) → HolderAnswer → Event
 
 -- the answer of a call on a book
 abbrev pub event : Book → Call → Event
-event b (Grant x y way colour) = GrantAnswered x y way colour (granted b x y way colour .answer)
+event b (Grant x y way colour crew) = GrantAnswered x y way colour crew (granted b x y way colour crew .answer)
 event b (Remove serial) = RemoveAnswered serial (removed b serial .answer)
 event b (Confirm serial) = ConfirmAnswered serial (confirmed b serial .answer)
-event b (Show serial) = ShowAnswered serial (shown b serial)
-event b (Holder link colour) = HolderAnswered link colour (heldBy b link colour)
+event b (Show serial crew) = ShowAnswered serial crew (shownTo crew b serial)
+event b (Holder link colour crew) = HolderAnswered link colour crew (heldFor crew b link colour)
 
 -- the book after a call; questions change nothing
 abbrev pub after : Book → Call → Book
-after b (Grant x y way colour) = granted b x y way colour .book
+after b (Grant x y way colour crew) = granted b x y way colour crew .book
 after b (Remove serial) = removed b serial .book
 after b (Confirm serial) = confirmed b serial .book
-after b (Show serial) = b
-after b (Holder link colour) = b
+after b (Show serial crew) = b
+after b (Holder link colour crew) = b
 
 -- the book after a list of calls, the latest of them first
 abbrev pub run : Book → List Call → Book
@@ -82,39 +82,39 @@ history b (call ∷ calls) = event (run b calls) call ∷ history b calls
 
 -- an accepted grant gave this serial to this circuit
 abbrev pub Gives : Event → ℕ → Circuit → Type 0
-Gives (GrantAnswered x y way colour (grant.Granted given)) serial c = (given ≡ serial) × (circuitOf given x y way colour ≡ c)
-Gives (GrantAnswered x y way colour (grant.Refused r)) serial c = ⊥
+Gives (GrantAnswered x y way colour crew (grant.Granted given)) serial c = (given ≡ serial) × (circuitOf given x y way colour crew ≡ c)
+Gives (GrantAnswered x y way colour crew (grant.Refused r)) serial c = ⊥
 Gives (RemoveAnswered s a) serial c = ⊥
 Gives (ConfirmAnswered s a) serial c = ⊥
-Gives (ShowAnswered s a) serial c = ⊥
-Gives (HolderAnswered l k a) serial c = ⊥
+Gives (ShowAnswered s crew a) serial c = ⊥
+Gives (HolderAnswered l k crew a) serial c = ⊥
 
 -- an accepted grant gave this serial
 abbrev pub gave : Event → ℕ → Bool
-gave (GrantAnswered x y way colour (grant.Granted given)) serial = eqb given serial
-gave (GrantAnswered x y way colour (grant.Refused r)) serial = false
+gave (GrantAnswered x y way colour crew (grant.Granted given)) serial = eqb given serial
+gave (GrantAnswered x y way colour crew (grant.Refused r)) serial = false
 gave (RemoveAnswered s a) serial = false
 gave (ConfirmAnswered s a) serial = false
-gave (ShowAnswered s a) serial = false
-gave (HolderAnswered l k a) serial = false
+gave (ShowAnswered s crew a) serial = false
+gave (HolderAnswered l k crew a) serial = false
 
 -- an accepted removal named this serial
 abbrev pub removes : Event → ℕ → Bool
 removes (RemoveAnswered named remove.Removed) serial = eqb named serial
 removes (RemoveAnswered named (remove.Refused r)) serial = false
-removes (GrantAnswered x y way colour a) serial = false
+removes (GrantAnswered x y way colour crew a) serial = false
 removes (ConfirmAnswered s a) serial = false
-removes (ShowAnswered s a) serial = false
-removes (HolderAnswered l k a) serial = false
+removes (ShowAnswered s crew a) serial = false
+removes (HolderAnswered l k crew a) serial = false
 
 -- an accepted confirmation named this serial
 abbrev pub confirms : Event → ℕ → Bool
 confirms (ConfirmAnswered named confirm.Confirmed) serial = eqb named serial
 confirms (ConfirmAnswered named (confirm.Refused r)) serial = false
-confirms (GrantAnswered x y way colour a) serial = false
+confirms (GrantAnswered x y way colour crew a) serial = false
 confirms (RemoveAnswered s a) serial = false
-confirms (ShowAnswered s a) serial = false
-confirms (HolderAnswered l k a) serial = false
+confirms (ShowAnswered s crew a) serial = false
+confirms (HolderAnswered l k crew a) serial = false
 
 -- an order is live: an accepted grant gave this serial to this circuit, and no later accepted removal named it
 abbrev pub Live : List Event → ℕ → Circuit → Type 0
@@ -145,32 +145,32 @@ wasConfirmed (latest ∷ earlier) serial = confirms latest serial || wasConfirme
 -- the serials that the accepted grants gave, the latest first
 abbrev pub given : List Event → List ℕ
 given [] = []
-given (GrantAnswered x y way colour (grant.Granted serial) ∷ h) = serial ∷ given h
-given (GrantAnswered x y way colour (grant.Refused r) ∷ h) = given h
+given (GrantAnswered x y way colour crew (grant.Granted serial) ∷ h) = serial ∷ given h
+given (GrantAnswered x y way colour crew (grant.Refused r) ∷ h) = given h
 given (RemoveAnswered s a ∷ h) = given h
 given (ConfirmAnswered s a ∷ h) = given h
-given (ShowAnswered s a ∷ h) = given h
-given (HolderAnswered l k a ∷ h) = given h
+given (ShowAnswered s crew a ∷ h) = given h
+given (HolderAnswered l k crew a ∷ h) = given h
 
 -- the number of accepted removals
 abbrev pub removals : List Event → ℕ
 removals [] = 0
 removals (RemoveAnswered s remove.Removed ∷ h) = suc (removals h)
 removals (RemoveAnswered s (remove.Refused r) ∷ h) = removals h
-removals (GrantAnswered x y way colour a ∷ h) = removals h
+removals (GrantAnswered x y way colour crew a ∷ h) = removals h
 removals (ConfirmAnswered s a ∷ h) = removals h
-removals (ShowAnswered s a ∷ h) = removals h
-removals (HolderAnswered l k a ∷ h) = removals h
+removals (ShowAnswered s crew a ∷ h) = removals h
+removals (HolderAnswered l k crew a ∷ h) = removals h
 
 -- the number of accepted confirmations
 abbrev pub confirmations : List Event → ℕ
 confirmations [] = 0
 confirmations (ConfirmAnswered s confirm.Confirmed ∷ h) = suc (confirmations h)
 confirmations (ConfirmAnswered s (confirm.Refused r) ∷ h) = confirmations h
-confirmations (GrantAnswered x y way colour a ∷ h) = confirmations h
+confirmations (GrantAnswered x y way colour crew a ∷ h) = confirmations h
 confirmations (RemoveAnswered s a ∷ h) = confirmations h
-confirmations (ShowAnswered s a ∷ h) = confirmations h
-confirmations (HolderAnswered l k a ∷ h) = confirmations h
+confirmations (ShowAnswered s crew a ∷ h) = confirmations h
+confirmations (HolderAnswered l k crew a ∷ h) = confirmations h
 
 -- k, and on down to 1
 abbrev pub downFrom : ℕ → List ℕ
@@ -208,7 +208,7 @@ pub record AfterHistory (n w : ℕ) (h : List Event) (b : Book) : Type 0 where
   pub pulled : (serial : ℕ) → ((confirmed b serial .answer ≡ confirm.Refused SerialConfirmed) ↔ (wasConfirmed h serial ≡ true))
   -- a colour on a link is held exactly if a live or pending circuit's way uses the link in that colour, and the holder is its order
   pub held : (link colour : ℕ) → link < n → colour < w → (serial : ℕ)
-      → ((heldBy b link colour ≡ holder.Held serial) ↔ Holding h link colour serial)
+      → ((heldBy b link colour ≡ holder.HeldBy serial) ↔ Holding h link colour serial)
   pub free : (link colour : ℕ) → link < n → colour < w
       → ((heldBy b link colour ≡ holder.Free) ↔ ((serial : ℕ) → Holding h link colour serial → ⊥))
   -- a removal frees no link: each colour on each link has the holder that it had

@@ -31,15 +31,15 @@ vacantPlaces (c ∷ places) = cond (eqb (c .serial) 0) 1 0 + vacantPlaces places
 -- the promise of the places
 pub record PlacesPromise (b : Book) : Type 0 where
   -- "which place a record takes", "but no other record has it"
-  pub takes : (x y way colour serial : ℕ) → granted b x y way colour .answer ≡ grant.Granted serial
-      → TakesVacantPlace b (granted b x y way colour .book) (circuitOf serial x y way colour)
+  pub takes : (x y way colour crew serial : ℕ) → granted b x y way colour crew .answer ≡ grant.Granted serial
+      → TakesVacantPlace b (granted b x y way colour crew .book) (circuitOf serial x y way colour crew)
   -- after a removal "place and colour stay held"
   pub stays : (serial : ℕ) → vacantPlaces (removed b serial .book .places) ≡ vacantPlaces (b .places)
   -- "Confirming frees both"
   pub frees : (serial : ℕ) → confirmed b serial .answer ≡ confirm.Confirmed
       → vacantPlaces (confirmed b serial .book .places) ≡ suc (vacantPlaces (b .places))
   -- "freed places are used again": the book is full only if no place is vacant
-  pub full : (x y way colour : ℕ) → granted b x y way colour .answer ≡ grant.Refused BookFull → vacantPlaces (b .places) ≡ 0
+  pub full : (x y way colour crew : ℕ) → granted b x y way colour crew .answer ≡ grant.Refused BookFull → vacantPlaces (b .places) ≡ 0
 
 -- of every valid book
 abbrev pub PlacesUsedAgain : Type 0

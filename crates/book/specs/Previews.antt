@@ -25,11 +25,11 @@ use Rattle.book.specs.Grants.{argumentVerdict, granted}
 
 -- line i of a list; a number past the list has no meaning, and gets a line of zeros
 abbrev pub line : List Line → ℕ → Line
-line ls i = getD ls i (record { x = 0; y = 0; way = 0; colour = 0 })
+line ls i = getD ls i (record { x = 0; y = 0; way = 0; colour = 0; crew = 0 })
 
 -- the grant that a line asks for
 abbrev pub grantedLine : Book → Line → Granted
-grantedLine b l = granted b (l .x) (l .y) (l .way) (l .colour)
+grantedLine b l = granted b (l .x) (l .y) (l .way) (l .colour) (l .crew)
 
 -- "the same grants .. on a copy of the book, one after another": the copy behind these lines
 abbrev pub afterLines : Book → List Line → Book
@@ -91,7 +91,8 @@ serialsOf p = take (p .count) (p .serials)
 pub record PreviewPromise (b : Book) (count : ℕ) (ls : List Line) (result : Previewed) : Type 0 where
   pub size : (r : Refusal) → sizeVerdict count ≡ verdict.Refused r → result ≡ noPreview r
   pub arguments : (r : Refusal) → sizeVerdict count ≡ verdict.Allowed
-      → argumentVerdict (b .n) (b .w) (line ls 0 .x) (line ls 0 .y) (line ls 0 .way) (line ls 0 .colour) ≡ verdict.Refused r
+      → argumentVerdict (b .n) (b .w) (line ls 0 .x) (line ls 0 .y) (line ls 0 .way) (line ls 0 .colour) (line ls 0 .crew)
+      ≡ verdict.Refused r
       → result ≡ record { answer = answer.Stopped 0 r; count = 0; serials = entries [] }
   pub valid : Valid b → result ≡ previewed b count ls
 

@@ -1,6 +1,7 @@
 // Books by value, in one form: the records, live and pending, first and by rising serial, vacant ones behind them.
 use super::circuits::Circuit;
 use super::circuits::is_live;
+use super::circuits::is_marked;
 use ring::Refusal;
 use ring::Ring;
 use ring::numbers::wide;
@@ -10,7 +11,7 @@ ghost use mathlib.Core.Path.{_≡_};
 ghost use mathlib.Core.Bool.{cond};
 ghost use Prim.Native.Nat.{_+_, _≤_, _<_};
 ghost use lib.ListN.{length};
-ghost use Rattle.book.specs.Books.{recordsOf, liveOf, hasPending, bookOf, opened};
+ghost use Rattle.book.specs.Books.{recordsOf, liveOf, hasMarked, bookOf, opened};
 
 pub struct Book {
     pub n: u16,
@@ -107,15 +108,15 @@ pub fn live_count(book: Book) -> u16
     live
 }
 
-// Whether some record is pending.
-pub fn has_pending(book: Book) -> bool
-    ensures { λ r. ⌜ r ≡ hasPending book ⌝ }
+// Whether some record is pending or not the desk's.
+pub fn has_marked(book: Book) -> bool
+    ensures { λ r. ⌜ r ≡ hasMarked book ⌝ }
 {
     let records = record_count(book);
     let mut i: usize = 0;
     while i < records {
         let circuit = book.places[i];
-        if !is_live(circuit) {
+        if is_marked(circuit) {
             return true;
         }
         i += 1;

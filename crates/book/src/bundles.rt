@@ -2,12 +2,13 @@
 ghost use mathlib.Core.List.{List, [], _∷_, _++_};
 ghost use Rattle.book.specs.Internal.Bundles.{Bundled};
 
-// A grant that is asked for: two ends in any order, the way (0 plain, 1 seam), the colour.
+// A grant that is asked for: two ends in any order, the way (0 plain, 1 seam), the colour, the crew.
 pub struct Line {
     pub x: u16,
     pub y: u16,
     pub way: u16,
     pub colour: u16,
+    pub crew: u16,
 }
 
 // Room for 16 lines, and their number as the caller gives it.
@@ -28,6 +29,7 @@ impl Bundle {
             y: 0,
             way: 0,
             colour: 0,
+            crew: 0,
         };
         let lines = [line; 16];
         Bundle {

@@ -2,9 +2,10 @@
 use ring::Request;
 use ring::Way;
 use ring::flags::both;
+use ring::flags::either;
 use ring::ways::uses;
 ghost use mathlib.Core.Path.{_≡_};
-ghost use Rattle.book.specs.Circuits.{vacant, isLive, asPending, endsOf, holds};
+ghost use Rattle.book.specs.Circuits.{vacant, isLive, isMarked, asPending, endsOf, holds};
 
 // A live circuit, or one that was removed and still shines until its pull is confirmed.
 pub enum RecordState {
@@ -12,8 +13,8 @@ pub enum RecordState {
     Pending,
 }
 
-// The serial, the two ends with the smaller as a, the way, the state and the colour. Way and state lie side by side: a record has 10 bytes
-// and none to spare.
+// The serial, the two ends with the smaller as a, the way, the state, the colour and the crew. Way and state lie side by side: a record has
+// 12 bytes and none to spare.
 pub struct Circuit {
     pub serial: u16,
     pub a: u16,
@@ -21,6 +22,7 @@ pub struct Circuit {
     pub way: Way,
     pub state: RecordState,
     pub colour: u16,
+    pub crew: u16,
 }
 
 impl Circuit {
@@ -35,6 +37,7 @@ impl Circuit {
             way: Way::Plain,
             state: RecordState::Live,
             colour: 0,
+            crew: 0,
         }
     }
 }
@@ -60,6 +63,13 @@ pub fn is_live(circuit: Circuit) -> bool
     }
 }
 
+// Whether the record is pending or not the desk's, for which the stored form has no room.
+pub fn is_marked(circuit: Circuit) -> bool
+    ensures { λ r. ⌜ r ≡ isMarked circuit ⌝ }
+{
+    either(!is_live(circuit), circuit.crew != 0)
+}
+
 // The same circuit, pending.
 pub fn as_pending(circuit: Circuit) -> Circuit
     ensures { λ r. ⌜ r ≡ asPending circuit ⌝ }
@@ -73,6 +83,7 @@ pub fn as_pending(circuit: Circuit) -> Circuit
         way: way,
         state: RecordState::Pending,
         colour: circuit.colour,
+        crew: circuit.crew,
     }
 }
 

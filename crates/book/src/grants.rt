@@ -4,6 +4,7 @@ use super::books::record_count;
 use super::circuits::Circuit;
 use super::circuits::RecordState;
 use super::circuits::ends_of;
+use super::crews::crew_verdict;
 use ring::Refusal;
 use ring::Request;
 use ring::Way;
@@ -64,14 +65,15 @@ fn colour_held(book: Book, way: Way, request: Request, colour: u16) -> bool
     false
 }
 
-// The first of the grounds 4, 5, 9 and 10 that is there.
-fn argument_verdict(n: u16, w: u16, x: u16, y: u16, way: u16, colour: u16) -> Verdict
-    ensures { λ r. ⌜ r ≡ argumentVerdict n w x y way colour ⌝ }
+// The first of the grounds 4, 5, 9, 10 and 26 that is there.
+fn argument_verdict(n: u16, w: u16, x: u16, y: u16, way: u16, colour: u16, crew: u16) -> Verdict
+    ensures { λ r. ⌜ r ≡ argumentVerdict n w x y way colour crew ⌝ }
 {
     let ends = ends_verdict(n, x, y, Refusal::CircuitEnd, Refusal::CircuitEndsEqual);
     let ways = refuse_if(1 < way, Refusal::WayNumber);
     let colours = refuse_if(w <= colour, Refusal::ColourNumber);
-    or_else(ends, or_else(ways, colours))
+    let crews = crew_verdict(crew);
+    or_else(ends, or_else(ways, or_else(colours, crews)))
 }
 
 // 12 or 13, if there is no place or no serial for one circuit more.
@@ -83,11 +85,11 @@ fn room_verdict(records: u16, grants: u16) -> Verdict
     or_else(places, serials)
 }
 
-// The first of the grounds 4, 5 and 9 to 13 that is there, 11 by comparing ends.
-fn grant_verdict(book: Book, x: u16, y: u16, way: u16, colour: u16) -> Verdict
-    ensures { λ r. ⌜ r ≡ verdictByEnds book x y way colour ⌝ }
+// The first of the grounds 4, 5, 9, 10, 26 and 11 to 13 that is there, 11 by comparing ends.
+fn grant_verdict(book: Book, x: u16, y: u16, way: u16, colour: u16, crew: u16) -> Verdict
+    ensures { λ r. ⌜ r ≡ verdictByEnds book x y way colour crew ⌝ }
 {
-    let arguments = argument_verdict(book.n, book.w, x, y, way, colour);
+    let arguments = argument_verdict(book.n, book.w, x, y, way, colour, crew);
     let route = way_of(way);
     let request = Request::new(x, y);
     let held = refuse_if(
@@ -106,8 +108,8 @@ fn next_serial(grants: u16) -> u16
 }
 
 // The circuit of a grant.
-fn circuit_of(serial: u16, x: u16, y: u16, way: u16, colour: u16) -> Circuit
-    ensures { λ r. ⌜ r ≡ circuitOf serial x y way colour ⌝ }
+fn circuit_of(serial: u16, x: u16, y: u16, way: u16, colour: u16, crew: u16) -> Circuit
+    ensures { λ r. ⌜ r ≡ circuitOf serial x y way colour crew ⌝ }
 {
     let request = Request::new(x, y);
     let route = way_of(way);
@@ -118,6 +120,7 @@ fn circuit_of(serial: u16, x: u16, y: u16, way: u16, colour: u16) -> Circuit
         way: route,
         state: RecordState::Live,
         colour: colour,
+        crew: crew,
     }
 }
 
@@ -138,12 +141,12 @@ fn enter(book: Book, circuit: Circuit) -> Book
 }
 
 // The serial of the new circuit and the book with it, or the same book and a refusal.
-pub fn grant(book: Book, x: u16, y: u16, way: u16, colour: u16) -> Granted
-    ensures { λ r. ⌜ GrantPromise book x y way colour r ⌝ }
+pub fn grant(book: Book, x: u16, y: u16, way: u16, colour: u16, crew: u16) -> Granted
+    ensures { λ r. ⌜ GrantPromise book x y way colour crew r ⌝ }
 {
     let serial = next_serial(book.grants);
-    let changed = enter(book, circuit_of(serial, x, y, way, colour));
-    let verdict = grant_verdict(book, x, y, way, colour);
+    let changed = enter(book, circuit_of(serial, x, y, way, colour, crew));
+    let verdict = grant_verdict(book, x, y, way, colour, crew);
     match verdict {
         Verdict::Allowed => Granted {
             answer: GrantAnswer::Granted(serial),

@@ -3,6 +3,7 @@ pub mod books;
 pub mod bundles;
 pub mod circuits;
 pub mod confirmations;
+pub mod crews;
 pub mod grants;
 pub mod holders;
 pub mod orders;

@@ -3,11 +3,14 @@ use super::books::Book;
 use super::books::record_count;
 use super::circuits::Circuit;
 use super::circuits::is_live;
+use super::crews::crew_verdict;
+use super::crews::is_own;
 use ring::Refusal;
 use ring::flags::either;
+use ring::refusals::Verdict;
 ghost use mathlib.Core.Path.{_≡_};
 ghost use Rattle.book.specs.Books.{recordsOf};
-ghost use Rattle.book.specs.Orders.{neverGiven, lookupIn, lookup, liveFound, missing, shown};
+ghost use Rattle.book.specs.Orders.{neverGiven, lookupIn, lookup, liveFound, missing, shown, ownShown, shownTo};
 
 // The record of an order, with its place.
 pub enum Lookup {
@@ -77,12 +80,39 @@ pub fn missing(book: Book, serial: u16) -> Refusal
     Refusal::SerialRemoved
 }
 
-// The circuit of a live order, or refusal 14 or 15.
-pub fn show(book: Book, serial: u16) -> ShowAnswer
+// What the desk reads: the circuit of a live order, or refusal 14 or 15.
+fn show_all(book: Book, serial: u16) -> ShowAnswer
     ensures { λ r. ⌜ r ≡ shown book serial ⌝ }
 {
     let Lookup::Found(_, circuit) = look_up_live(book, serial) else {
         return ShowAnswer::Refused(missing(book, serial));
     };
     ShowAnswer::Shown(circuit)
+}
+
+// What another crew reads: the circuit of a live order of its own, or refusal 14.
+fn show_own(book: Book, serial: u16, crew: u16) -> ShowAnswer
+    ensures { λ r. ⌜ r ≡ ownShown crew book serial ⌝ }
+{
+    let Lookup::Found(_, circuit) = look_up(book, serial) else {
+        return ShowAnswer::Refused(Refusal::SerialNeverGiven);
+    };
+    if is_own(crew, circuit) {
+        return ShowAnswer::Shown(circuit);
+    }
+    ShowAnswer::Refused(Refusal::SerialNeverGiven)
+}
+
+// The circuit of an order that the crew may read, or refusal 26, 14 or 15.
+pub fn show(book: Book, serial: u16, crew: u16) -> ShowAnswer
+    ensures { λ r. ⌜ r ≡ shownTo crew book serial ⌝ }
+{
+    let verdict = crew_verdict(crew);
+    if let Verdict::Refused(refusal) = verdict {
+        return ShowAnswer::Refused(refusal);
+    }
+    if crew == 0 {
+        return show_all(book, serial);
+    }
+    show_own(book, serial, crew)
 }

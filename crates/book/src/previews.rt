@@ -71,7 +71,7 @@ pub fn preview(book: Book, bundle: Bundle) -> Previewed
     let mut i: usize = 0;
     while i < count {
         let line = bundle.lines[i];
-        let granted = grant(copy, line.x, line.y, line.way, line.colour);
+        let granted = grant(copy, line.x, line.y, line.way, line.colour, line.crew);
         let answer = granted.answer;
         let next = granted.book;
         match answer {

@@ -20,12 +20,12 @@ use Rattle.book.specs.declared.confirmations.ConfirmAnswer.{ConfirmAnswer}
 use Rattle.book.specs.declared.confirmations.ConfirmAnswer.the-variants as confirm
 use Rattle.book.specs.declared.orders.ShowAnswer.{ShowAnswer}
 use Rattle.book.specs.declared.holders.HolderAnswer.{HolderAnswer}
-use Rattle.book.specs.Books.{hasPending, Valid, opened}
+use Rattle.book.specs.Books.{hasMarked, Valid, opened}
 use Rattle.book.specs.Grants.{granted}
 use Rattle.book.specs.Removals.{removed}
 use Rattle.book.specs.Confirmations.{confirmed}
-use Rattle.book.specs.Orders.{shown}
-use Rattle.book.specs.Holders.{heldBy}
+use Rattle.book.specs.Orders.{shownTo}
+use Rattle.book.specs.Holders.{heldFor}
 use Rattle.book.proofs.Validity.{keeps-valid}
 use Rattle.stored.specs.declared.loads.Loaded.{Loaded}
 use Rattle.stored.specs.declared.loads.LoadAnswer.{LoadAnswer}
@@ -61,9 +61,9 @@ module _ (b : Book) where
       → openingBy b n w a (o .book) ≡ openingAnswer b n w
   open-told n w q p = rw (← q, p) refl
 
-  pub grant-told : (x y way colour : ℕ) {g : Granted} {a : GrantAnswer} → g ≡ granted b x y way colour → g .answer ≡ a
-      → grantingBy b a (g .book) ≡ grantAnswer b x y way colour
-  grant-told x y way colour q p = rw (← q, p) refl
+  pub grant-told : (x y way colour crew : ℕ) {g : Granted} {a : GrantAnswer} → g ≡ granted b x y way colour crew → g .answer ≡ a
+      → grantingBy b a (g .book) ≡ grantAnswer b x y way colour crew
+  grant-told x y way colour crew q p = rw (← q, p) refl
 
   pub remove-told : (serial : ℕ) {d : Removed} {a : RemoveAnswer} → d ≡ removed b serial → d .answer ≡ a
       → removingBy b serial a (d .book) ≡ removeAnswer b serial
@@ -73,11 +73,12 @@ module _ (b : Book) where
       → confirmingBy b serial a (d .book) ≡ confirmAnswer b serial
   confirm-told serial q p = rw (← q, p) refl
 
-  pub show-told : (serial : ℕ) {a z : ShowAnswer} → a ≡ shown b serial → a ≡ z → showingBy z ≡ showReply b serial
-  show-told serial q p = ap showingBy (sym p ∙ q)
+  pub show-told : (serial crew : ℕ) {a z : ShowAnswer} → a ≡ shownTo crew b serial → a ≡ z → showingBy z ≡ showReply b serial crew
+  show-told serial crew q p = ap showingBy (sym p ∙ q)
 
-  pub holder-told : (link colour : ℕ) {a z : HolderAnswer} → a ≡ heldBy b link colour → a ≡ z → holdingBy z ≡ holderReply b link colour
-  holder-told link colour q p = ap holdingBy (sym p ∙ q)
+  pub holder-told : (link colour crew : ℕ) {a z : HolderAnswer} → a ≡ heldFor crew b link colour → a ≡ z
+      → holdingBy z ≡ holderReply b link colour crew
+  holder-told link colour crew q p = ap holdingBy (sym p ∙ q)
 
 -- the answer by the state of the file
 pub answer-in : (contents : Contents) (c : Command) {s : State} {r : Answered} → contents .state ≡ s → r ≡ answeredIn s (contents .book) c
@@ -106,7 +107,8 @@ previews (reply.Removed serial) = false
 previews (reply.Confirmed serial) = false
 previews (reply.Circuit x y way colour) = false
 previews reply.Free = false
-previews (reply.Held serial) = false
+previews reply.Held = false
+previews (reply.HeldBy serial) = false
 previews (reply.Count live grants) = false
 previews reply.Orders = false
 previews reply.PendingOrders = false
@@ -124,12 +126,12 @@ none-previews b (command.Open n w) = go (opened n w .answer) (opened n w .book)
     go : (a : OpenAnswer) (d : Book) → previews (openingBy b n w a d .reply) ≡ false
     go opening.Opened d = refl
     go (opening.Refused r) d = refl
-none-previews b (command.Grant x y way colour) = refl
+none-previews b (command.Grant x y way colour crew) = refl
 none-previews b command.Preview = refl
 none-previews b (command.Remove serial) = refl
 none-previews b (command.Confirm serial) = refl
-none-previews b (command.Show serial) = refl
-none-previews b (command.Holder link colour) = refl
+none-previews b (command.Show serial crew) = refl
+none-previews b (command.Holder link colour crew) = refl
 none-previews b command.Count = refl
 none-previews b command.List = refl
 none-previews b command.Pending = refl
@@ -137,34 +139,34 @@ none-previews b (command.Aside a) = refl
 
 broken-previews : (b : Book) (r : Refusal) (c : Command) → previews (turnedDown b (reply.Refused r) c .reply) ≡ false
 broken-previews b r (command.Open n w) = refl
-broken-previews b r (command.Grant x y way colour) = refl
+broken-previews b r (command.Grant x y way colour crew) = refl
 broken-previews b r command.Preview = refl
 broken-previews b r (command.Remove serial) = refl
 broken-previews b r (command.Confirm serial) = refl
-broken-previews b r (command.Show serial) = refl
-broken-previews b r (command.Holder link colour) = refl
+broken-previews b r (command.Show serial crew) = refl
+broken-previews b r (command.Holder link colour crew) = refl
 broken-previews b r command.Count = refl
 broken-previews b r command.List = refl
 broken-previews b r command.Pending = refl
 broken-previews b r (command.Aside a) = refl
 
--- the book of an answer: the one that was there, or an accepted one without a pending record
+-- the book of an answer: the one that was there, or an accepted one whose records are live and the desk's
 module _ (P : Book → Type 0) (b : Book) (old : P b) where
-  after-storing : (next : Book) (reply : Reply) → (hasPending next ≡ false → P next) → P (storing (hasPending next) b next reply .book)
-  after-storing next reply new = go (hasPending next) refl
+  after-storing : (next : Book) (reply : Reply) → (hasMarked next ≡ false → P next) → P (storing (hasMarked next) b next reply .book)
+  after-storing next reply new = go (hasMarked next) refl
     where
-      go : (t : Bool) → hasPending next ≡ t → P (storing t b next reply .book)
+      go : (t : Bool) → hasMarked next ≡ t → P (storing t b next reply .book)
       go true e = old
       go false e = new e
 
-  pub after-answer : ((x y way colour : ℕ) → let d = granted b x y way colour .book in hasPending d ≡ false → P d)
-      → ((serial : ℕ) → let d = removed b serial .book in hasPending d ≡ false → P d)
-      → ((serial : ℕ) → let d = confirmed b serial .book in hasPending d ≡ false → P d) → (c : Command) → P (answeredBook b c .book)
+  pub after-answer : ((x y way colour crew : ℕ) → let d = granted b x y way colour crew .book in hasMarked d ≡ false → P d)
+      → ((serial : ℕ) → let d = removed b serial .book in hasMarked d ≡ false → P d)
+      → ((serial : ℕ) → let d = confirmed b serial .book in hasMarked d ≡ false → P d) → (c : Command) → P (answeredBook b c .book)
   after-answer g r f (command.Open n w) = old
-  after-answer g r f (command.Grant x y way colour) = go (granted b x y way colour .answer)
+  after-answer g r f (command.Grant x y way colour crew) = go (granted b x y way colour crew .answer)
     where
-      go : (a : GrantAnswer) → P (grantingBy b a (granted b x y way colour .book) .book)
-      go (grant.Granted serial) = after-storing (granted b x y way colour .book) (reply.Granted serial) (g x y way colour)
+      go : (a : GrantAnswer) → P (grantingBy b a (granted b x y way colour crew .book) .book)
+      go (grant.Granted serial) = after-storing (granted b x y way colour crew .book) (reply.Granted serial) (g x y way colour crew)
       go (grant.Refused q) = old
   after-answer g r f command.Preview = old
   after-answer g r f (command.Remove serial) = go (removed b serial .answer)
@@ -177,8 +179,8 @@ module _ (P : Book → Type 0) (b : Book) (old : P b) where
       go : (a : ConfirmAnswer) → P (confirmingBy b serial a (confirmed b serial .book) .book)
       go confirm.Confirmed = after-storing (confirmed b serial .book) (reply.Confirmed serial) (f serial)
       go (confirm.Refused q) = old
-  after-answer g r f (command.Show serial) = old
-  after-answer g r f (command.Holder link colour) = old
+  after-answer g r f (command.Show serial crew) = old
+  after-answer g r f (command.Holder link colour crew) = old
   after-answer g r f command.Count = old
   after-answer g r f command.List = old
   after-answer g r f command.Pending = old
@@ -186,11 +188,11 @@ module _ (P : Book → Type 0) (b : Book) (old : P b) where
 
 pub book-valid : (b : Book) → Valid b → (c : Command) → Valid (answeredBook b c .book)
 book-valid b v c =
-    after-answer Valid b v (λ x y way colour e. keeps-valid .granting b v x y way colour) (λ serial e. keeps-valid .removing b v serial)
-    (λ serial e. keeps-valid .confirming b v serial) c
+    after-answer Valid b v (λ x y way colour crew e. keeps-valid .granting b v x y way colour crew)
+    (λ serial e. keeps-valid .removing b v serial) (λ serial e. keeps-valid .confirming b v serial) c
 
-pub book-live : (b : Book) → hasPending b ≡ false → (c : Command) → hasPending (answeredBook b c .book) ≡ false
-book-live b e c = after-answer (λ d. hasPending d ≡ false) b e (λ x y way colour h. h) (λ serial h. h) (λ serial h. h) c
+pub book-unmarked : (b : Book) → hasMarked b ≡ false → (c : Command) → hasMarked (answeredBook b c .book) ≡ false
+book-unmarked b e c = after-answer (λ d. hasMarked d ≡ false) b e (λ x y way colour crew h. h) (λ serial h. h) (λ serial h. h) c
 
 pub previewed-valid : (contents : Contents) (c : Command) → ValidContents contents → {r : Answered} → r ≡ answered contents c
     → r .reply ≡ reply.Previewed → Valid (r .book)

@@ -15,13 +15,17 @@ use Rattle.book.specs.declared.bundles.Line.{Line}
 use Rattle.book.specs.declared.bundles.Bundle.{Bundle}
 use Rattle.book.specs.Internal.Bundles.{Bundled}
 use Rattle.book.proofs.BundleLaws.{no-lines, some-lines}
+use Rattle.book_text.specs.declared.lines.Command.{Command}
 use Rattle.book_text.specs.declared.lines.Command.the-variants as command
+use Rattle.book_text.specs.declared.numbers.CrewedAt.{CrewedAt}
+use Rattle.book_text.specs.declared.numbers.CrewedAt.the-variants as crewedAt
 use Rattle.book_text.specs.declared.bundles.AskedAt.{AskedAt}
 use Rattle.book_text.specs.declared.bundles.AskedAt.the-variants as askedAt
 use Rattle.book_text.specs.Lines.{comma, Asked, broken, asked, askedOf, behindComma, linesFrom, bundleOf, onLines}
-use Rattle.book_text.specs.Lines.{unreadable, previewOf}
-use Rattle.book_text.specs.Internal.Asking.{askedIn, AskedRead}
+use Rattle.book_text.specs.Lines.{unreadable, grantOf, previewOf}
+use Rattle.book_text.specs.Internal.Asking.{CrewedRead, askedIn, AskedRead}
 use Rattle.book_text.proofs.LineLaws.{ended-not, ended-so}
+use Rattle.book_text.proofs.NumberLaws.{crewed-none, crewed-found, crewed-within}
 
 -- a line of a bundle, from its numbers: one of them is not there, or all are
 module _ {close : ℕ} {text : List ℕ} {at : ℕ} where
@@ -40,17 +44,17 @@ module _ {close : ℕ} {text : List ℕ} {at : ℕ} where
       lost-third u g = record { same = rw (field-found s e .0, field-found t f .0, field-lost u g) refl; fits = tt }
 
       module _ {p : FieldAt} {way fourth : ℕ} (u : FieldRead space text third p) (g : p ≡ fieldAt.Found way fourth) where
-        pub lost-fourth : {o : FieldAt} → FieldRead close text fourth o → o ≡ fieldAt.Missing → AskedRead close text at askedAt.Broken
+        pub lost-fourth : {o : CrewedAt} → CrewedRead close text fourth o → o ≡ crewedAt.Missing → AskedRead close text at askedAt.Broken
         unfolding askedOf
         lost-fourth v h =
-            record { same = rw (field-found s e .0, field-found t f .0, field-found u g .0, field-lost v h) refl; fits = tt }
+            record { same = rw (field-found s e .0, field-found t f .0, field-found u g .0, crewed-none v h) refl; fits = tt }
 
-        pub all-found : {o : FieldAt} {colour next : ℕ} → FieldRead close text fourth o → o ≡ fieldAt.Found colour next
-            → AskedRead close text at (askedAt.Asked (record { x = x; y = y; way = way; colour = colour }) next)
+        pub all-found : {o : CrewedAt} {colour crew next : ℕ} → CrewedRead close text fourth o → o ≡ crewedAt.Found colour crew next
+            → AskedRead close text at (askedAt.Asked (record { x = x; y = y; way = way; colour = colour; crew = crew }) next)
         unfolding askedOf
         all-found v h = record {
-          same = rw (field-found s e .0, field-found t f .0, field-found u g .0, field-found v h .0) refl;
-          fits = field-found v h .1 .1;
+          same = rw (field-found s e .0, field-found t f .0, field-found u g .0, crewed-found v h) refl;
+          fits = crewed-within v h;
         }
 
 -- what was read at a position
@@ -63,6 +67,24 @@ module _ {close : ℕ} {text : List ℕ} {at : ℕ} {r : AskedAt} (s : AskedRead
 
   pub asked-within : {l : Line} {next : ℕ} → r ≡ askedAt.Asked l next → next ≤ length text
   asked-within e = rw e at (s .fits)
+
+-- a grant, from the line that was read
+module _ {text : List ℕ} {at : ℕ} {r : AskedAt} (s : AskedRead lineFeed text at r) where
+  pub grant-lost : r ≡ askedAt.Broken → unreadable ≡ grantOf (drop at text)
+  unfolding grantOf
+  grant-lost e = rw (not-asked s e) refl
+
+  module _ {l : Line} {next : ℕ} (e : r ≡ askedAt.Asked l next) where
+    abbrev asked-for : Command
+    asked-for = command.Grant (l .x) (l .y) (l .way) (l .colour) (l .crew)
+
+    pub grant-more : next < length text → unreadable ≡ grantOf (drop at text)
+    unfolding grantOf
+    grant-more h = rw (is-asked s e) (sym (ended-not text next asked-for unreadable h))
+
+    pub grant-found : length text ≤ next → asked-for ≡ grantOf (drop at text)
+    unfolding grantOf
+    grant-found h = rw (is-asked s e) (sym (ended-so text next asked-for unreadable h))
 
 -- a space behind a comma
 module _ (text : List ℕ) (at : ℕ) where

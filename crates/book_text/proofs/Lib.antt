@@ -2,6 +2,7 @@
 -- LineHistories), Typed (TypedT7).
 pub mod SpaceLaws
 pub mod LineLaws
+pub mod NumberLaws
 pub mod AskingLaws
 pub mod AnswerLaws
 pub mod ReplyLaws

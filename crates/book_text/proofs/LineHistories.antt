@@ -19,7 +19,7 @@ use Rattle.book.specs.declared.removals.RemoveAnswer.the-variants as remove
 use Rattle.book.specs.declared.confirmations.ConfirmAnswer.{ConfirmAnswer}
 use Rattle.book.specs.declared.confirmations.ConfirmAnswer.the-variants as confirm
 use Rattle.book.specs.Circuits.{someCircuit}
-use Rattle.book.specs.Books.{hasPending, Valid, bookOf, opened}
+use Rattle.book.specs.Books.{hasMarked, Valid, bookOf, opened}
 use Rattle.book.specs.Grants.{grantVerdict, grantUnless, granted}
 use Rattle.book.specs.Removals.{removed}
 use Rattle.book.specs.Confirmations.{confirmed}
@@ -45,23 +45,23 @@ use Rattle.book_text.specs.Answers.{stateOf, only, storing, openingBy, g
 use Rattle.book_text.specs.Answers.{holderReply, answeredNone, answeredBook, answeredIn, answered}
 use Rattle.book_text.specs.Promises.{File, none, holding, contentsOf, obeyed, fileAfter, OnlyWritingChanges}
 use Rattle.book_text.specs.Histories.{fileAfterAll, called, unstored, callsOf, FileHolds, LineHistories}
-use Rattle.book_text.proofs.AnswerLaws.{book-live}
+use Rattle.book_text.proofs.AnswerLaws.{book-unmarked}
 
 -- what changes the book is a command that writes
 changing : (s : State) (b : Book) (c : Command) → answeredIn s b c .changes ≡ true → needOf c ≡ Writing
 changing s b (command.Open n w) e = refl
-changing s b (command.Grant x y way colour) e = refl
+changing s b (command.Grant x y way colour crew) e = refl
 changing s b (command.Remove serial) e = refl
 changing s b (command.Confirm serial) e = refl
 changing Absent b command.Preview e = impossible (sym e)
 changing (Broken r) b command.Preview e = impossible (sym e)
 changing Sound b command.Preview e = impossible (sym e)
-changing Absent b (command.Show serial) e = impossible (sym e)
-changing (Broken r) b (command.Show serial) e = impossible (sym e)
-changing Sound b (command.Show serial) e = impossible (sym e)
-changing Absent b (command.Holder link colour) e = impossible (sym e)
-changing (Broken r) b (command.Holder link colour) e = impossible (sym e)
-changing Sound b (command.Holder link colour) e = impossible (sym e)
+changing Absent b (command.Show serial crew) e = impossible (sym e)
+changing (Broken r) b (command.Show serial crew) e = impossible (sym e)
+changing Sound b (command.Show serial crew) e = impossible (sym e)
+changing Absent b (command.Holder link colour crew) e = impossible (sym e)
+changing (Broken r) b (command.Holder link colour crew) e = impossible (sym e)
+changing Sound b (command.Holder link colour crew) e = impossible (sym e)
 changing Absent b command.Count e = impossible (sym e)
 changing (Broken r) b command.Count e = impossible (sym e)
 changing Sound b command.Count e = impossible (sym e)
@@ -80,10 +80,10 @@ unfolding answered
 only-writing-changes file line e = changing (contentsOf file .state) (contentsOf file .book) (commandOf line) e
 
 -- a change that the book refuses leaves it
-grant-left : (b : Book) (x y way colour : ℕ) (r : Refusal) → granted b x y way colour .answer ≡ grant.Refused r
-    → granted b x y way colour .book ≡ b
+grant-left : (b : Book) (x y way colour crew : ℕ) (r : Refusal) → granted b x y way colour crew .answer ≡ grant.Refused r
+    → granted b x y way colour crew .book ≡ b
 unfolding granted
-grant-left b x y way colour r = go (grantVerdict b x y way colour) _
+grant-left b x y way colour crew r = go (grantVerdict b x y way colour crew) _
   where
     go : (v : Verdict) (c : Circuit) → grantUnless v b c .answer ≡ grant.Refused r → grantUnless v b c .book ≡ b
     go verdict.Allowed c e = impossible (cc)
@@ -119,8 +119,8 @@ module _ (o : Book) (calls : List Call) (c : Command) (call : Call) (is-call : c
       same false = sym e
 
   -- a change that the book accepts
-  leads-storing : (r : Reply) → unstored r ≡ false → Leads o calls c (storing (hasPending (after b call)) b (after b call) r)
-  leads-storing r e = go (hasPending (after b call))
+  leads-storing : (r : Reply) → unstored r ≡ false → Leads o calls c (storing (hasMarked (after b call)) b (after b call) r)
+  leads-storing r e = go (hasMarked (after b call))
     where
       go : (t : Bool) → Leads o calls c (storing t b (after b call) r)
       go true = record { book = refl; file = λ q. refl }
@@ -128,17 +128,18 @@ module _ (o : Book) (calls : List Call) (c : Command) (call : Call) (is-call : c
 
 leads : (o : Book) (calls : List Call) (c : Command) → Leads o calls c (answeredBook (run o calls) c)
 leads o calls (command.Open n w) = record { book = refl; file = λ q. refl }
-leads o calls (command.Grant x y way colour) = go (granted b x y way colour .answer) refl
+leads o calls (command.Grant x y way colour crew) = go (granted b x y way colour crew .answer) refl
   where
     b : Book
     b = run o calls
 
-    go : (a : GrantAnswer) → granted b x y way colour .answer ≡ a
-        → Leads o calls (command.Grant x y way colour) (grantingBy b a (granted b x y way colour .book))
+    go : (a : GrantAnswer) → granted b x y way colour crew .answer ≡ a
+        → Leads o calls (command.Grant x y way colour crew) (grantingBy b a (granted b x y way colour crew .book))
     go (grant.Granted serial) e =
-        leads-storing o calls (command.Grant x y way colour) (Grant x y way colour) refl (reply.Granted serial) refl
+        leads-storing o calls (command.Grant x y way colour crew) (Grant x y way colour crew) refl (reply.Granted serial) refl
     go (grant.Refused r) e =
-        leads-only o calls (command.Grant x y way colour) (Grant x y way colour) refl (reply.Refused r) (grant-left b x y way colour r e)
+        leads-only o calls (command.Grant x y way colour crew) (Grant x y way colour crew) refl (reply.Refused r)
+        (grant-left b x y way colour crew r e)
 leads o calls command.Preview = record { book = refl; file = λ q. refl }
 leads o calls (command.Remove serial) = go (removed b serial .answer) refl
   where
@@ -159,9 +160,10 @@ leads o calls (command.Confirm serial) = go (confirmed b serial .answer) refl
     go confirm.Confirmed e = leads-storing o calls (command.Confirm serial) (Confirm serial) refl (reply.Confirmed serial) refl
     go (confirm.Refused r) e =
         leads-only o calls (command.Confirm serial) (Confirm serial) refl (reply.Refused r) (confirm-left b serial r e)
-leads o calls (command.Show serial) = leads-only o calls (command.Show serial) (Show serial) refl (showReply (run o calls) serial) refl
-leads o calls (command.Holder link colour) =
-    leads-only o calls (command.Holder link colour) (Holder link colour) refl (holderReply (run o calls) link colour) refl
+leads o calls (command.Show serial crew) =
+    leads-only o calls (command.Show serial crew) (Show serial crew) refl (showReply (run o calls) serial crew) refl
+leads o calls (command.Holder link colour crew) =
+    leads-only o calls (command.Holder link colour crew) (Holder link colour crew) refl (holderReply (run o calls) link colour crew) refl
 leads o calls command.Count = record { book = refl; file = λ q. refl }
 leads o calls command.List = record { book = refl; file = λ q. refl }
 leads o calls command.Pending = record { book = refl; file = λ q. refl }
@@ -180,18 +182,18 @@ file-opened n w allowed line e =
     (ap (answeredNone (bookOf 0 0 0 [])) e
     ∙ ap (λ (a : OpenAnswer). openingBy (bookOf 0 0 0 []) n w a (opened n w .book)) (opened-so n w allowed))
 
-pub opened-live : (n w : ℕ) → ringVerdict n w ≡ verdict.Allowed → hasPending (opened n w .book) ≡ false
-unfolding hasPending someCircuit
-opened-live n w e = ap hasPending (opened-book n w e)
+pub opened-unmarked : (n w : ℕ) → ringVerdict n w ≡ verdict.Allowed → hasMarked (opened n w .book) ≡ false
+unfolding hasMarked someCircuit
+opened-unmarked n w e = ap hasMarked (opened-book n w e)
 
 -- a file that holds the book that calls led to answers as it does
-module _ (o : Book) (calls : List Call) (v : Valid (run o calls)) (live : hasPending (run o calls) ≡ false) (line : List ℕ) where
+module _ (o : Book) (calls : List Call) (v : Valid (run o calls)) (unmarked : hasMarked (run o calls) ≡ false) (line : List ℕ) where
   abbrev x : Answered
   x = answeredBook (run o calls) (commandOf line)
 
   pub answers-book : obeyed (holding (storedForm (run o calls))) line ≡ x
   unfolding answered
-  answers-book = ap (λ (l : Loaded). answeredIn (stateOf (l .answer)) (l .book) (commandOf line)) (reads-back (run o calls) v live)
+  answers-book = ap (λ (l : Loaded). answeredIn (stateOf (l .answer)) (l .book) (commandOf line)) (reads-back (run o calls) v unmarked)
 
   -- and then holds the book of the answer
   pub file-next : fileAfter (holding (storedForm (run o calls))) line ≡ holding (storedForm (x .book))
@@ -210,26 +212,26 @@ module _ (n w : ℕ) (allowed : ringVerdict n w ≡ verdict.Allowed) where
 
   record Stands (calls : List Call) (file : File) : Type 0 where
     pub there : file ≡ holding (storedForm (run o calls))
-    pub live : hasPending (run o calls) ≡ false
+    pub unmarked : hasMarked (run o calls) ≡ false
 
   stands-next : (calls : List Call) (file : File) (line : List ℕ) → Stands calls file
       → Stands (cond (unstored (obeyed file line .reply)) calls (called (commandOf line) calls)) (fileAfter file line)
   stands-next calls file line s =
       let v = every-history n w allowed calls .valid in
       let answer : obeyed file line ≡ answeredBook (run o calls) (commandOf line) =
-      ap (λ (f : File). obeyed f line) (s .there) ∙ answers-book o calls v (s .live) line in
+      ap (λ (f : File). obeyed f line) (s .there) ∙ answers-book o calls v (s .unmarked) line in
       let next : answeredBook (run o calls) (commandOf line) .book
       ≡ run o (cond (unstored (obeyed file line .reply)) calls (called (commandOf line) calls)) =
       leads o calls (commandOf line) .book
       ∙ ap (λ (y : Answered). run o (cond (unstored (y .reply)) calls (called (commandOf line) calls))) (sym answer) in
       record {
-        there = ap (λ (f : File). fileAfter f line) (s .there) ∙ file-next o calls v (s .live) line
+        there = ap (λ (f : File). fileAfter f line) (s .there) ∙ file-next o calls v (s .unmarked) line
             ∙ ap (λ (d : Book). holding (storedForm d)) next;
-        live = ap hasPending (sym next) ∙ book-live (run o calls) (s .live) (commandOf line);
+        unmarked = ap hasMarked (sym next) ∙ book-unmarked (run o calls) (s .unmarked) (commandOf line);
       }
 
   stands-after : (lines : List (List ℕ)) → let file = holding (storedForm o) in Stands (callsOf file lines) (fileAfterAll file lines)
-  stands-after [] = record { there = refl; live = opened-live n w allowed }
+  stands-after [] = record { there = refl; unmarked = opened-unmarked n w allowed }
   stands-after (line ∷ lines) =
       let file = holding (storedForm o) in
       stands-next (callsOf file lines) (fileAfterAll file lines) line (stands-after lines)
@@ -238,9 +240,9 @@ module _ (n w : ℕ) (allowed : ringVerdict n w ≡ verdict.Allowed) where
   file-holds calls file s = record {
     bytes = storedForm (run o calls);
     there = s .there;
-    stored = stored-histories n w allowed calls (s .live);
+    stored = stored-histories n w allowed calls (s .unmarked);
     answers = λ line. ap (λ (f : File). obeyed f line) (s .there)
-        ∙ answers-book o calls (every-history n w allowed calls .valid) (s .live) line;
+        ∙ answers-book o calls (every-history n w allowed calls .valid) (s .unmarked) line;
   }
 
 pub line-histories : LineHistories

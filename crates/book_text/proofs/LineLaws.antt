@@ -19,10 +19,10 @@ use Rattle.texts.proofs.FieldLaws.{field-found, field-lost, line-is, line-is-no
 use Rattle.book_text.specs.declared.lines.Command.{Command}
 use Rattle.book_text.specs.declared.lines.Command.the-variants as command
 use Rattle.book_text.specs.declared.lines.Aside.the-variants as aside
-use Rattle.book_text.specs.declared.lines.Single.the-variants as single
-use Rattle.book_text.specs.declared.lines.Pair.{Pair}
-use Rattle.book_text.specs.declared.lines.Pair.the-variants as pair
-use Rattle.book_text.specs.Lines.{starts, ended, singleOf, pairOf, onPair, grantOf, unreadable}
+use Rattle.book_text.specs.declared.numbers.Single.the-variants as single
+use Rattle.book_text.specs.declared.numbers.Pair.{Pair}
+use Rattle.book_text.specs.declared.numbers.Pair.the-variants as pair
+use Rattle.book_text.specs.Lines.{starts, ended, singleOf, pairOf, lastOf, onPair, holderOf, unreadable}
 use Rattle.book_text.specs.Lines.{commandIn, squeezed, finished, heard, commandOf}
 
 -- a text shorter than the word does not begin with it
@@ -93,22 +93,17 @@ pub pair-found : {text : List ℕ} {at x y next : ℕ} {r : LineAt} → LineRead
 unfolding pairOf
 pair-found {text} {at} {x} {y} {next} s e h = rw (line-is s e .0) (sym (ended-so text next (pair.Two x y) pair.Broken h))
 
--- a grant, from its numbers
-pub grant-lost : {text : List ℕ} {at : ℕ} {r : FieldAt} → FieldRead space text at r → r ≡ fieldAt.Missing
-    → unreadable ≡ grantOf (drop at text)
-unfolding grantOf
-grant-lost s e = rw (field-lost s e) refl
+-- a question for a holder, from its numbers
+pub holder-lost : {text : List ℕ} {at : ℕ} {r : FieldAt} → FieldRead space text at r → r ≡ fieldAt.Missing
+    → unreadable ≡ holderOf (drop at text)
+unfolding holderOf
+holder-lost s e = rw (field-lost s e) refl
 
-pub grant-one : {text : List ℕ} {at x behind : ℕ} {r q : FieldAt} → FieldRead space text at r → r ≡ fieldAt.Found x behind
-    → FieldRead space text behind q → q ≡ fieldAt.Missing → unreadable ≡ grantOf (drop at text)
-unfolding grantOf
-grant-one s e t f = rw (field-found s e .0, field-lost t f) refl
-
-pub grant-two : {text : List ℕ} {at x behind y rest : ℕ} {r q : FieldAt} {p z : Pair} → FieldRead space text at r
-    → r ≡ fieldAt.Found x behind → FieldRead space text behind q → q ≡ fieldAt.Found y rest → p ≡ pairOf (drop rest text) → p ≡ z
-    → onPair z (λ way colour. command.Grant x y way colour) ≡ grantOf (drop at text)
-unfolding grantOf
-grant-two s e t f g m = rw (field-found s e .0, field-found t f .0, ← g, m) refl
+pub holder-read : {text : List ℕ} {at link behind : ℕ} {r : FieldAt} {p z : Pair} → FieldRead space text at r
+    → r ≡ fieldAt.Found link behind → p ≡ lastOf (drop behind text) → p ≡ z
+    → onPair z (λ colour crew. command.Holder link colour crew) ≡ holderOf (drop at text)
+unfolding holderOf
+holder-read s e g m = rw (field-found s e .0, ← g, m) refl
 
 -- an empty line has no line feed
 pub finished-none : (line : List ℕ) → length line ≡ 0 → false ≡ finished line

@@ -8,9 +8,10 @@ use Rattle.ring.specs.Ways.{uses, someLink}
 use Rattle.ring.specs.Admission.{ringVerdict, endsVerdict}
 use Rattle.book.specs.declared.books.Book.{Book}
 use Rattle.book.specs.Circuits.{someCircuit, holds}
-use Rattle.book.specs.Books.{hasPending, Valid, opened}
+use Rattle.book.specs.Books.{hasMarked, Valid, opened}
+use Rattle.book.specs.Crews.{crewVerdict}
 use Rattle.book.specs.Grants.{heldIn, heldOnWay, colourHeld, argumentVerdict, roomVerdict, grantVerdict, granted}
-use Rattle.book.specs.Orders.{neverGiven, lookupIn, lookup, missing, shown}
+use Rattle.book.specs.Orders.{neverGiven, lookupIn, lookup, missing, shown, shownTo}
 use Rattle.book.specs.Removals.{removed}
 use Rattle.book.specs.Confirmations.{absent, confirmed}
 use Rattle.book.proofs.Validity.{keeps-valid}
@@ -21,14 +22,14 @@ use Rattle.texts.specs.Fields.{field, line}
 use Rattle.texts.specs.Layout.{labelled}
 use Rattle.book_text.specs.declared.lines.Command.the-variants as command
 use Rattle.book_text.specs.declared.answers.Answered.{Answered}
-use Rattle.book_text.specs.Lines.{singleOf, pairOf, openOf, grantOf, removeOf, confirmOf, showOf}
+use Rattle.book_text.specs.Lines.{singleOf, pairOf, crewedOf, lastOf, askedOf, openOf, grantOf, removeOf, confirmOf, showOf}
 use Rattle.book_text.specs.Lines.{commandWithNumbers, commandIn, squeezed, finished, heard, commandOf}
 use Rattle.book_text.specs.Answers.{answeredBook, answered}
 use Rattle.book_text.specs.Replies.{oneNumber, twoNumbers, circuitText, refusedText, replyText}
 use Rattle.book_text.specs.Promises.{File, none, holding, lineAnswer, fileAfter}
 use Rattle.book_text.specs.Histories.{lineAnswers, TypedT7}
-use Rattle.book_text.proofs.AnswerLaws.{book-valid, book-live}
-use Rattle.book_text.proofs.LineHistories.{file-opened, opened-live, answers-book, file-next}
+use Rattle.book_text.proofs.AnswerLaws.{book-valid, book-unmarked}
+use Rattle.book_text.proofs.LineHistories.{file-opened, opened-unmarked, answers-book, file-next}
 
 -- the answers of a book to lines, one behind the other
 abbrev spoken : Book → List (List ℕ) → List ℕ
@@ -38,15 +39,16 @@ spoken b (said ∷ lines) =
     ++ spoken (answeredBook b (commandOf said) .book) lines
 
 -- a file that holds the book answers as that book
-answers-run : (b : Book) → Valid b → hasPending b ≡ false → (lines : List (List ℕ))
+answers-run : (b : Book) → Valid b → hasMarked b ≡ false → (lines : List (List ℕ))
     → lineAnswers (holding (storedForm b)) lines ≡ spoken b lines
-answers-run b v live [] = refl
-answers-run b v live (said ∷ lines) =
+answers-run b v unmarked [] = refl
+answers-run b v unmarked (said ∷ lines) =
     let next = fileAfter (holding (storedForm b)) said in
-    ap (λ (x : Answered). replyText (heard said) (x .book) (x .reply) ++ lineAnswers next lines) (answers-book b [] v live said)
+    ap (λ (x : Answered). replyText (heard said) (x .book) (x .reply) ++ lineAnswers next lines) (answers-book b [] v unmarked said)
     ∙ ap (λ (l : List ℕ). replyText (heard said) (answeredBook b (commandOf said) .book) (answeredBook b (commandOf said) .reply) ++ l)
-    (ap (λ (f : File). lineAnswers f lines) (file-next b [] v live said)
-    ∙ answers-run (answeredBook b (commandOf said) .book) (book-valid b v (commandOf said)) (book-live b live (commandOf said)) lines)
+    (ap (λ (f : File). lineAnswers f lines) (file-next b [] v unmarked said)
+    ∙ answers-run (answeredBook b (commandOf said) .book) (book-valid b v (commandOf said))
+    (book-unmarked b unmarked (commandOf said)) lines)
 
 -- the first line, and those behind it
 abbrev first : List ℕ
@@ -75,18 +77,18 @@ opens = refl
 
 computed : lineAnswer none first ++ spoken (opened 4 1 .book) behind
     ≡ bytes "opened 4 1\ngranted 1\ngranted 2\nrefused 11 that colour is held on a link of the way\n"
-    ++ (bytes "refused 25 a book with a pending record cannot be stored\nrefused 11 that colour is held on a link of the way\n"
-    ++ (bytes "refused 11 that colour is held on a link of the way\nrefused 23 the circuit is live\ncircuit 0 2 P 0\n"
-    ++ bytes "refused 14 serial 0 or never given\n"))
+    ++ (bytes "refused 25 a record that is pending or whose crew is not 0 cannot be stored\n"
+    ++ (bytes "refused 11 that colour is held on a link of the way\nrefused 11 that colour is held on a link of the way\n"
+    ++ bytes "refused 23 the circuit is live\ncircuit 0 2 P 0\nrefused 14 serial 0 or never given\n"))
 unfolding opened ringVerdict endsVerdict granted grantVerdict argumentVerdict roomVerdict colourHeld heldOnWay heldIn someCircuit holds uses
-    someLink hasPending removed confirmed lookup lookupIn missing absent neverGiven shown field line singleOf pairOf openOf grantOf removeOf
-    confirmOf showOf commandWithNumbers commandIn squeezed finished heard commandOf answered decimal labelled oneNumber twoNumbers
-    circuitText refusedText
+    someLink hasMarked crewVerdict removed confirmed lookup lookupIn missing absent neverGiven shown shownTo field line singleOf pairOf
+    crewedOf lastOf askedOf openOf grantOf removeOf confirmOf showOf commandWithNumbers commandIn squeezed finished heard commandOf
+    answered decimal labelled oneNumber twoNumbers circuitText refusedText
 computed = refl
 
 pub typed-t7 : TypedT7
 typed-t7 =
     ap (λ (l : List ℕ). lineAnswer none first ++ l)
     (ap (λ (f : File). lineAnswers f behind) (file-opened 4 1 allowed first opens)
-    ∙ answers-run (opened 4 1 .book) (keeps-valid .opening 4 1 allowed) (opened-live 4 1 allowed) behind)
+    ∙ answers-run (opened 4 1 .book) (keeps-valid .opening 4 1 allowed) (opened-unmarked 4 1 allowed) behind)
     ∙ computed

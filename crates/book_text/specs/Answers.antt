@@ -4,7 +4,7 @@ use mathlib.Core.Path.{_≡_}
 use mathlib.Core.Bool.{Bool, true, false}
 use mathlib.Core.List.{List, []}
 use lib.ListN.{length}
-use Rattle.ring.specs.declared.refusals.Refusal.the-variants.{PendingRecord}
+use Rattle.ring.specs.declared.refusals.Refusal.the-variants.{MarkedRecord}
 use Rattle.book.specs.declared.books.Book.{Book}
 use Rattle.book.specs.declared.books.OpenAnswer.{OpenAnswer}
 use Rattle.book.specs.declared.books.OpenAnswer.the-variants as opening
@@ -18,12 +18,12 @@ use Rattle.book.specs.declared.orders.ShowAnswer.{ShowAnswer}
 use Rattle.book.specs.declared.orders.ShowAnswer.the-variants as show
 use Rattle.book.specs.declared.holders.HolderAnswer.{HolderAnswer}
 use Rattle.book.specs.declared.holders.HolderAnswer.the-variants as holder
-use Rattle.book.specs.Books.{liveOf, hasPending, Valid, bookOf, opened}
+use Rattle.book.specs.Books.{liveOf, hasMarked, Valid, bookOf, opened}
 use Rattle.book.specs.Grants.{granted}
 use Rattle.book.specs.Removals.{removed}
 use Rattle.book.specs.Confirmations.{confirmed}
-use Rattle.book.specs.Orders.{shown}
-use Rattle.book.specs.Holders.{heldBy}
+use Rattle.book.specs.Orders.{shownTo}
+use Rattle.book.specs.Holders.{heldFor}
 use Rattle.stored.specs.declared.loads.LoadAnswer.{LoadAnswer}
 use Rattle.stored.specs.declared.loads.LoadAnswer.the-variants as load
 use Rattle.stored.specs.Loading.{loaded}
@@ -34,7 +34,8 @@ use Rattle.book_text.specs.declared.answers.State.the-variants.{Absent, 
 use Rattle.book_text.specs.declared.answers.Contents.{Contents}
 use Rattle.book_text.specs.declared.answers.Reply.{Reply}
 use Rattle.book_text.specs.declared.answers.Reply.the-variants.{Opened, Granted, Previewed, Removed, Confirmed, Circuit, Free, Held}
-use Rattle.book_text.specs.declared.answers.Reply.the-variants.{Count, Orders, PendingOrders, Refused, BookThere, NoBook, Aside}
+use Rattle.book_text.specs.declared.answers.Reply.the-variants.{HeldBy, Count, Orders, PendingOrders, Refused, BookThere}
+use Rattle.book_text.specs.declared.answers.Reply.the-variants.{NoBook, Aside}
 use Rattle.book_text.specs.declared.answers.Answered.{Answered}
 
 -- the state of a file by what load answers
@@ -59,9 +60,10 @@ only b reply = record { reply = reply; changes = false; book = b }
 abbrev pub replacing : Book → Reply → Answered
 replacing b reply = record { reply = reply; changes = true; book = b }
 
--- a change that the book accepted, with the book after it: one with a pending record is not stored, and all stays as it is
+-- a change that the book accepted, with the book after it: one with a record that is pending or not the desk's is not stored, and all stays
+-- as it is
 abbrev pub storing : Bool → Book → Book → Reply → Answered
-storing true b next reply = only b (Refused PendingRecord)
+storing true b next reply = only b (Refused MarkedRecord)
 storing false b next reply = replacing next reply
 
 -- opening, by the book's own answer: a refusal changes nothing
@@ -71,17 +73,17 @@ openingBy b n w (opening.Refused r) fresh = only b (Refused r)
 
 -- a grant, by the book's own answer
 abbrev pub grantingBy : Book → GrantAnswer → Book → Answered
-grantingBy b (grant.Granted serial) next = storing (hasPending next) b next (Granted serial)
+grantingBy b (grant.Granted serial) next = storing (hasMarked next) b next (Granted serial)
 grantingBy b (grant.Refused r) next = only b (Refused r)
 
 -- a removal, by the book's own answer
 abbrev pub removingBy : Book → ℕ → RemoveAnswer → Book → Answered
-removingBy b serial remove.Removed next = storing (hasPending next) b next (Removed serial)
+removingBy b serial remove.Removed next = storing (hasMarked next) b next (Removed serial)
 removingBy b serial (remove.Refused r) next = only b (Refused r)
 
 -- a confirmation, by the book's own answer
 abbrev pub confirmingBy : Book → ℕ → ConfirmAnswer → Book → Answered
-confirmingBy b serial confirm.Confirmed next = storing (hasPending next) b next (Confirmed serial)
+confirmingBy b serial confirm.Confirmed next = storing (hasMarked next) b next (Confirmed serial)
 confirmingBy b serial (confirm.Refused r) next = only b (Refused r)
 
 -- what show replies, by the book's own answer
@@ -92,16 +94,17 @@ showingBy (show.Refused r) = Refused r
 -- what holder replies, by the book's own answer
 abbrev pub holdingBy : HolderAnswer → Reply
 holdingBy holder.Free = Free
-holdingBy (holder.Held serial) = Held serial
+holdingBy holder.Held = Held
+holdingBy (holder.HeldBy serial) = HeldBy serial
 holdingBy (holder.Refused r) = Refused r
 
 -- `open N W`
 abbrev pub openingAnswer : Book → ℕ → ℕ → Answered
 openingAnswer b n w = openingBy b n w (opened n w .answer) (opened n w .book)
 
--- `grant X Y WAY COLOUR`
-abbrev pub grantAnswer : Book → ℕ → ℕ → ℕ → ℕ → Answered
-grantAnswer b x y way colour = grantingBy b (granted b x y way colour .answer) (granted b x y way colour .book)
+-- `grant X Y WAY COLOUR CREW`
+abbrev pub grantAnswer : Book → ℕ → ℕ → ℕ → ℕ → ℕ → Answered
+grantAnswer b x y way colour crew = grantingBy b (granted b x y way colour crew .answer) (granted b x y way colour crew .book)
 
 -- `remove SERIAL`
 abbrev pub removeAnswer : Book → ℕ → Answered
@@ -111,23 +114,23 @@ removeAnswer b serial = removingBy b serial (removed b serial .answer) (removed 
 abbrev pub confirmAnswer : Book → ℕ → Answered
 confirmAnswer b serial = confirmingBy b serial (confirmed b serial .answer) (confirmed b serial .book)
 
--- `show SERIAL`
-abbrev pub showReply : Book → ℕ → Reply
-showReply b serial = showingBy (shown b serial)
+-- `show SERIAL CREW`
+abbrev pub showReply : Book → ℕ → ℕ → Reply
+showReply b serial crew = showingBy (shownTo crew b serial)
 
--- `holder LINK COLOUR`
-abbrev pub holderReply : Book → ℕ → ℕ → Reply
-holderReply b link colour = holdingBy (heldBy b link colour)
+-- `holder LINK COLOUR CREW`
+abbrev pub holderReply : Book → ℕ → ℕ → ℕ → Reply
+holderReply b link colour crew = holdingBy (heldFor crew b link colour)
 
 -- a command that there is no book for gets this reply; an aside asks for none
 abbrev pub turnedDown : Book → Reply → Command → Answered
 turnedDown b reply (command.Open n w) = only b reply
-turnedDown b reply (command.Grant x y way colour) = only b reply
+turnedDown b reply (command.Grant x y way colour crew) = only b reply
 turnedDown b reply command.Preview = only b reply
 turnedDown b reply (command.Remove serial) = only b reply
 turnedDown b reply (command.Confirm serial) = only b reply
-turnedDown b reply (command.Show serial) = only b reply
-turnedDown b reply (command.Holder link colour) = only b reply
+turnedDown b reply (command.Show serial crew) = only b reply
+turnedDown b reply (command.Holder link colour crew) = only b reply
 turnedDown b reply command.Count = only b reply
 turnedDown b reply command.List = only b reply
 turnedDown b reply command.Pending = only b reply
@@ -136,12 +139,12 @@ turnedDown b reply (command.Aside a) = only b (Aside a)
 -- where there is no file, a book may be opened
 abbrev pub answeredNone : Book → Command → Answered
 answeredNone b (command.Open n w) = openingAnswer b n w
-answeredNone b (command.Grant x y way colour) = only b NoBook
+answeredNone b (command.Grant x y way colour crew) = only b NoBook
 answeredNone b command.Preview = only b NoBook
 answeredNone b (command.Remove serial) = only b NoBook
 answeredNone b (command.Confirm serial) = only b NoBook
-answeredNone b (command.Show serial) = only b NoBook
-answeredNone b (command.Holder link colour) = only b NoBook
+answeredNone b (command.Show serial crew) = only b NoBook
+answeredNone b (command.Holder link colour crew) = only b NoBook
 answeredNone b command.Count = only b NoBook
 answeredNone b command.List = only b NoBook
 answeredNone b command.Pending = only b NoBook
@@ -150,12 +153,12 @@ answeredNone b (command.Aside a) = only b (Aside a)
 -- where there is a book, it is asked
 abbrev pub answeredBook : Book → Command → Answered
 answeredBook b (command.Open n w) = only b BookThere
-answeredBook b (command.Grant x y way colour) = grantAnswer b x y way colour
+answeredBook b (command.Grant x y way colour crew) = grantAnswer b x y way colour crew
 answeredBook b command.Preview = only b Previewed
 answeredBook b (command.Remove serial) = removeAnswer b serial
 answeredBook b (command.Confirm serial) = confirmAnswer b serial
-answeredBook b (command.Show serial) = only b (showReply b serial)
-answeredBook b (command.Holder link colour) = only b (holderReply b link colour)
+answeredBook b (command.Show serial crew) = only b (showReply b serial crew)
+answeredBook b (command.Holder link colour crew) = only b (holderReply b link colour crew)
 answeredBook b command.Count = only b (Count (length (liveOf b)) (b .grants))
 answeredBook b command.List = only b Orders
 answeredBook b command.Pending = only b PendingOrders

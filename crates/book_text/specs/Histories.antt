@@ -28,12 +28,12 @@ fileAfterAll file (line ∷ lines) = fileAfter (fileAfterAll file lines) line
 -- the call on the book that a command is, in front of those before it; the other commands are none
 abbrev pub called : Command → List Call → List Call
 called (command.Open n w) calls = calls
-called (command.Grant x y way colour) calls = Grant x y way colour ∷ calls
+called (command.Grant x y way colour crew) calls = Grant x y way colour crew ∷ calls
 called command.Preview calls = calls
 called (command.Remove serial) calls = Remove serial ∷ calls
 called (command.Confirm serial) calls = Confirm serial ∷ calls
-called (command.Show serial) calls = Show serial ∷ calls
-called (command.Holder link colour) calls = Holder link colour ∷ calls
+called (command.Show serial crew) calls = Show serial crew ∷ calls
+called (command.Holder link colour crew) calls = Holder link colour crew ∷ calls
 called command.Count calls = calls
 called command.List calls = calls
 called command.Pending calls = calls
@@ -49,7 +49,8 @@ unstored (reply.Removed serial) = false
 unstored (reply.Confirmed serial) = false
 unstored (reply.Circuit x y way colour) = false
 unstored reply.Free = false
-unstored (reply.Held serial) = false
+unstored reply.Held = false
+unstored (reply.HeldBy serial) = false
 unstored (reply.Count live grants) = false
 unstored reply.Orders = false
 unstored reply.PendingOrders = false
@@ -98,6 +99,6 @@ TypedT7 =
     ∷ bytes "show 4\n"
     ∷ [])
     ≡ bytes "opened 4 1\ngranted 1\ngranted 2\nrefused 11 that colour is held on a link of the way\n"
-    ++ (bytes "refused 25 a book with a pending record cannot be stored\nrefused 11 that colour is held on a link of the way\n"
-    ++ (bytes "refused 11 that colour is held on a link of the way\nrefused 23 the circuit is live\ncircuit 0 2 P 0\n"
-    ++ bytes "refused 14 serial 0 or never given\n"))
+    ++ (bytes "refused 25 a record that is pending or whose crew is not 0 cannot be stored\n"
+    ++ (bytes "refused 11 that colour is held on a link of the way\nrefused 11 that colour is held on a link of the way\n"
+    ++ bytes "refused 23 the circuit is live\ncircuit 0 2 P 0\nrefused 14 serial 0 or never given\n"))

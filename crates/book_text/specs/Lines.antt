@@ -7,13 +7,14 @@ use lib.ListN.{length, drop, getD}
 use Rattle.ring.specs.Buffers.{sameBytes}
 use Rattle.texts.specs.Fields.{space, lineFeed, field, onField, line, onLine}
 use Rattle.book.specs.declared.bundles.Line.{Line}
+use Rattle.book.specs.Circuits.{desk}
 use Rattle.book_text.specs.declared.lines.Command.{Command}
 use Rattle.book_text.specs.declared.lines.Command.the-variants as command
 use Rattle.book_text.specs.declared.lines.Aside.the-variants as aside
-use Rattle.book_text.specs.declared.lines.Single.{Single}
-use Rattle.book_text.specs.declared.lines.Single.the-variants as single
-use Rattle.book_text.specs.declared.lines.Pair.{Pair}
-use Rattle.book_text.specs.declared.lines.Pair.the-variants as pair
+use Rattle.book_text.specs.declared.numbers.Single.{Single}
+use Rattle.book_text.specs.declared.numbers.Single.the-variants as single
+use Rattle.book_text.specs.declared.numbers.Pair.{Pair}
+use Rattle.book_text.specs.declared.numbers.Pair.the-variants as pair
 use Rattle.texts.specs.Bytes.{bytes}
 
 -- a line that is no command
@@ -39,6 +40,27 @@ singleOf text = onField (field lineFeed text) single.Broken (λ x rest. ended re
 unfoldable pub pairOf : List ℕ → Pair
 pairOf text = onLine (line text) pair.Broken (λ x y rest. ended rest (pair.Two x y) pair.Broken)
 
+-- a number at the start of a text with the crew that may stand behind it, and the text behind the byte that closes them
+pub data Crewed : Type 0 where
+  none : Crewed
+  crewed : (x crew : ℕ) → List ℕ → Crewed
+
+-- the number is closed by this byte, or a space and a crew stand before it; without a crew it is the desk
+unfoldable pub crewedOf : ℕ → List ℕ → Crewed
+crewedOf close text =
+    onField (field close text)
+    (onField (field space text) none (λ x behind. onField (field close behind) none (λ crew rest. crewed x crew rest)))
+    (λ x rest. crewed x desk rest)
+
+-- what follows from both and the text behind them, and what where there are none
+abbrev pub onCrewed : {A : Type 0} → Crewed → A → (ℕ → ℕ → List ℕ → A) → A
+onCrewed none otherwise next = otherwise
+onCrewed (crewed x crew rest) otherwise next = next x crew rest
+
+-- a last number and its crew, "closed by a line feed"
+unfoldable pub lastOf : List ℕ → Pair
+lastOf text = onCrewed (crewedOf lineFeed text) pair.Broken (λ x crew rest. ended rest (pair.Two x crew) pair.Broken)
+
 -- what follows from one number, and what where there is none
 abbrev pub onSingle : Single → (ℕ → Command) → Command
 onSingle single.Broken next = unreadable
@@ -53,12 +75,6 @@ onPair (pair.Two x y) next = next x y
 unfoldable pub openOf : List ℕ → Command
 openOf text = onPair (pairOf text) (λ n w. command.Open n w)
 
--- `X Y WAY COLOUR`, behind `grant `
-unfoldable pub grantOf : List ℕ → Command
-grantOf text =
-    onField (field space text) unreadable
-    (λ x behind. onField (field space behind) unreadable (λ y rest. onPair (pairOf rest) (λ way colour. command.Grant x y way colour)))
-
 -- the byte that closes a line of a bundle with another behind it
 abbrev pub comma : ℕ
 comma = 44
@@ -68,19 +84,25 @@ pub data Asked : Type 0 where
   broken : Asked
   asked : Line → List ℕ → Asked
 
--- `X Y WAY COLOUR`, closed by this byte
+-- `X Y WAY COLOUR CREW`, closed by this byte
 unfoldable pub askedOf : ℕ → List ℕ → Asked
 askedOf close text =
     onField (field space text) broken
     (λ x second. onField (field space second) broken
     (λ y third. onField (field space third) broken
-    (λ way fourth. onField (field close fourth) broken
-    (λ colour rest. asked (record { x = x; y = y; way = way; colour = colour }) rest))))
+    (λ way fourth. onCrewed (crewedOf close fourth) broken
+    (λ colour crew rest. asked (record { x = x; y = y; way = way; colour = colour; crew = crew }) rest))))
 
 -- what follows from such a line and the text behind it, and what where there is none
-abbrev pub onAsked : Asked → List Line → (Line → List ℕ → List Line) → List Line
+abbrev pub onAsked : {A : Type 0} → Asked → A → (Line → List ℕ → A) → A
 onAsked broken otherwise next = otherwise
 onAsked (asked l rest) otherwise next = next l rest
+
+-- one such line, behind `grant `
+unfoldable pub grantOf : List ℕ → Command
+grantOf text =
+    onAsked (askedOf lineFeed text) unreadable
+    (λ l rest. ended rest (command.Grant (l .x) (l .y) (l .way) (l .colour) (l .crew)) unreadable)
 
 -- the text behind a comma: a space there may be left out
 abbrev pub behindComma : List ℕ → List ℕ
@@ -95,7 +117,7 @@ linesFrom (suc most) before text =
     (onAsked (askedOf comma text) [] (λ l rest. linesFrom most (before ++ (l ∷ [])) (behindComma rest)))
     (λ l rest. ended rest (before ++ (l ∷ [])) [])
 
--- `X Y WAY COLOUR, X Y WAY COLOUR, ..`, behind `preview `; a line of 1,024 bytes has room for fewer than 128 of them
+-- `X Y WAY COLOUR CREW, X Y WAY COLOUR CREW, ..`, behind `preview `; a line of 1,024 bytes has room for fewer than 128 of them
 unfoldable pub bundleOf : List ℕ → List Line
 bundleOf text = linesFrom 128 [] text
 
@@ -120,13 +142,14 @@ removeOf text = onSingle (singleOf text) (λ serial. command.Remove serial)
 unfoldable pub confirmOf : List ℕ → Command
 confirmOf text = onSingle (singleOf text) (λ serial. command.Confirm serial)
 
--- `SERIAL`, behind `show `
+-- `SERIAL CREW`, behind `show `
 unfoldable pub showOf : List ℕ → Command
-showOf text = onSingle (singleOf text) (λ serial. command.Show serial)
+showOf text = onPair (lastOf text) (λ serial crew. command.Show serial crew)
 
--- `LINK COLOUR`, behind `holder `
+-- `LINK COLOUR CREW`, behind `holder `
 unfoldable pub holderOf : List ℕ → Command
-holderOf text = onPair (pairOf text) (λ link colour. command.Holder link colour)
+holderOf text =
+    onField (field space text) unreadable (λ link behind. onPair (lastOf behind) (λ colour crew. command.Holder link colour crew))
 
 -- what follows from the text behind a word, and what if the line does not begin with it
 abbrev pub onWord : List ℕ → List ℕ → (List ℕ → Command) → Command → Command

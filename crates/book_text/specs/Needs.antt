@@ -7,12 +7,12 @@ use Rattle.book_text.specs.declared.obeying.Need.the-variants.{Nothing, 
 -- "A question reads the file and answers", a change puts other bytes in the place of the file's, and an aside needs no file
 abbrev pub needOf : Command → Need
 needOf (command.Open n w) = Writing
-needOf (command.Grant x y way colour) = Writing
+needOf (command.Grant x y way colour crew) = Writing
 needOf (command.Remove serial) = Writing
 needOf (command.Confirm serial) = Writing
 needOf command.Preview = Reading
-needOf (command.Show serial) = Reading
-needOf (command.Holder link colour) = Reading
+needOf (command.Show serial crew) = Reading
+needOf (command.Holder link colour crew) = Reading
 needOf command.Count = Reading
 needOf command.List = Reading
 needOf command.Pending = Reading

@@ -83,17 +83,17 @@ unreadableText text =
 -- "the commands, one line each"
 unfoldable pub helpText : List ℕ
 helpText =
-    bytes "open N W              begins a book for a ring of N nodes and W colours\n"
-    ++ (bytes "grant X Y WAY COLOUR  enters a circuit between nodes X and Y, WAY 0 plain or 1 seam, and gives its order a serial\n"
-    ++ (bytes "preview LINE, ..      the serials that up to 16 grants would get, each LINE as X Y WAY COLOUR\n"
-    ++ (bytes "remove SERIAL         removes an order; its colour stays held until the pull is confirmed\n"
-    ++ (bytes "confirm SERIAL        confirms that a removed order's patch is pulled, and frees its colour\n"
-    ++ (bytes "show SERIAL           the circuit of an order: its ends, P (plain) or S (seam), its colour\n"
-    ++ (bytes "holder LINK COLOUR    the order that has the colour on the link\n"
-    ++ (bytes "count                 how many orders are live, and how many were granted so far\n"
-    ++ (bytes "list                  every live order with its circuit\n"
-    ++ (bytes "pending               every removed order whose pull is not yet confirmed, with its circuit\n"
-    ++ bytes "help                  these lines\n")))))))))
+    bytes "open N W                     begins a book for a ring of N nodes and W colours\n"
+    ++ (bytes "grant X Y WAY COLOUR [CREW]  enters a circuit between nodes X and Y, WAY 0 plain or 1 seam, and gives its order a serial\n"
+    ++ (bytes "preview LINE, ..             the serials that up to 16 grants would get, each LINE as X Y WAY COLOUR [CREW]\n"
+    ++ (bytes "remove SERIAL                removes an order; its colour stays held until the pull is confirmed\n"
+    ++ (bytes "confirm SERIAL               confirms that a removed order's patch is pulled, and frees its colour\n"
+    ++ (bytes "show SERIAL [CREW]           the circuit of an order: its ends, P (plain) or S (seam), its colour\n"
+    ++ (bytes "holder LINK COLOUR [CREW]    the order that has the colour on the link\n"
+    ++ (bytes "count                        how many orders are live, and how many were granted so far\n"
+    ++ (bytes "list                         every live order with its circuit\n"
+    ++ (bytes "pending                      every removed order whose pull is not yet confirmed, with its circuit\n"
+    ++ bytes "help                         these lines\n")))))))))
 
 -- the answer to a line that asks nothing of the book, as it was heard
 abbrev pub asideText : List ℕ → Aside → List ℕ
@@ -112,7 +112,8 @@ replyText text b (reply.Removed serial) = oneNumber (bytes "removed ") serial
 replyText text b (reply.Confirmed serial) = oneNumber (bytes "confirmed ") serial
 replyText text b (reply.Circuit x y way colour) = circuitText (bytes "circuit ") x y way colour
 replyText text b reply.Free = bytes "free\n"
-replyText text b (reply.Held serial) = oneNumber (bytes "held ") serial
+replyText text b reply.Held = bytes "held\n"
+replyText text b (reply.HeldBy serial) = oneNumber (bytes "held ") serial
 replyText text b (reply.Count live grants) = twoNumbers (bytes "live ") live (bytes " grants ") grants
 replyText text b reply.Orders = ordersText b
 replyText text b reply.PendingOrders = pendingText b

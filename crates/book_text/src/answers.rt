@@ -3,7 +3,7 @@ use super::lines::Aside;
 use super::lines::Command;
 use book::Book;
 use book::books::OpenAnswer;
-use book::books::has_pending;
+use book::books::has_marked;
 use book::books::live_count;
 use book::confirm;
 use book::confirmations::ConfirmAnswer;
@@ -21,7 +21,7 @@ use ring::Way;
 use stored::loads::LoadAnswer;
 use stored::loads::load;
 ghost use mathlib.Core.Path.{_≡_};
-ghost use Rattle.book.specs.Books.{hasPending, Valid};
+ghost use Rattle.book.specs.Books.{hasMarked, Valid};
 ghost use Rattle.book_text.specs.Answers.{contentsIn, ValidContents, only, replacing, storing};
 ghost use Rattle.book_text.specs.Answers.{openingAnswer, grantAnswer, removeAnswer, confirmAnswer, showReply, holderReply};
 ghost use Rattle.book_text.specs.Answers.{turnedDown, answeredNone, answeredBook, answered};
@@ -47,7 +47,8 @@ pub enum Reply {
     Confirmed(u16),
     Circuit(u16, u16, Way, u16),
     Free,
-    Held(u16),
+    Held,
+    HeldBy(u16),
     Count(u16, u16),
     Orders,
     PendingOrders,
@@ -113,12 +114,13 @@ fn replacing(book: Book, reply: Reply) -> Answered
     }
 }
 
-// A change that the book accepted: 25, and the book as it was, if the one after it has a pending record, which has no stored form.
+// A change that the book accepted: 25, and the book as it was, if the one after it has a record that is pending or not the desk's, which
+// has no stored form.
 fn storing(book: Book, next: Book, reply: Reply) -> Answered
-    ensures { λ r. ⌜ r ≡ storing (hasPending next) book next reply ⌝ }
+    ensures { λ r. ⌜ r ≡ storing (hasMarked next) book next reply ⌝ }
 {
-    if has_pending(next) {
-        return only(book, Reply::Refused(Refusal::PendingRecord));
+    if has_marked(next) {
+        return only(book, Reply::Refused(Refusal::MarkedRecord));
     }
     replacing(next, reply)
 }
@@ -135,10 +137,10 @@ fn answer_open(book: Book, n: u16, w: u16) -> Answered
     }
 }
 
-fn answer_grant(book: Book, x: u16, y: u16, way: u16, colour: u16) -> Answered
-    ensures { λ r. ⌜ (Valid book → r ≡ grantAnswer book x y way colour) ⌝ }
+fn answer_grant(book: Book, x: u16, y: u16, way: u16, colour: u16, crew: u16) -> Answered
+    ensures { λ r. ⌜ (Valid book → r ≡ grantAnswer book x y way colour crew) ⌝ }
 {
-    let granted = grant(book, x, y, way, colour);
+    let granted = grant(book, x, y, way, colour, crew);
     let answer = granted.answer;
     let next = granted.book;
     match answer {
@@ -171,10 +173,10 @@ fn answer_confirm(book: Book, serial: u16) -> Answered
     }
 }
 
-fn answer_show(book: Book, serial: u16) -> Reply
-    ensures { λ r. ⌜ r ≡ showReply book serial ⌝ }
+fn answer_show(book: Book, serial: u16, crew: u16) -> Reply
+    ensures { λ r. ⌜ r ≡ showReply book serial crew ⌝ }
 {
-    let answer = show(book, serial);
+    let answer = show(book, serial, crew);
     match answer {
         ShowAnswer::Shown(circuit) => {
             let way = circuit.way;
@@ -184,13 +186,14 @@ fn answer_show(book: Book, serial: u16) -> Reply
     }
 }
 
-fn answer_holder(book: Book, link: u16, colour: u16) -> Reply
-    ensures { λ r. ⌜ r ≡ holderReply book link colour ⌝ }
+fn answer_holder(book: Book, link: u16, colour: u16, crew: u16) -> Reply
+    ensures { λ r. ⌜ r ≡ holderReply book link colour crew ⌝ }
 {
-    let answer = holder(book, link, colour);
+    let answer = holder(book, link, colour, crew);
     match answer {
         HolderAnswer::Free => Reply::Free,
-        HolderAnswer::Held(serial) => Reply::Held(serial),
+        HolderAnswer::Held => Reply::Held,
+        HolderAnswer::HeldBy(serial) => Reply::HeldBy(serial),
         HolderAnswer::Refused(refusal) => Reply::Refused(refusal),
     }
 }
@@ -201,12 +204,12 @@ fn turn_down(book: Book, reply: Reply, command: Command) -> Answered
 {
     match command {
         Command::Open(_, _) => only(book, reply),
-        Command::Grant(_, _, _, _) => only(book, reply),
+        Command::Grant(_, _, _, _, _) => only(book, reply),
         Command::Preview => only(book, reply),
         Command::Remove(_) => only(book, reply),
         Command::Confirm(_) => only(book, reply),
-        Command::Show(_) => only(book, reply),
-        Command::Holder(_, _) => only(book, reply),
+        Command::Show(_, _) => only(book, reply),
+        Command::Holder(_, _, _) => only(book, reply),
         Command::Count => only(book, reply),
         Command::List => only(book, reply),
         Command::Pending => only(book, reply),
@@ -220,12 +223,12 @@ fn answer_none(book: Book, command: Command) -> Answered
 {
     match command {
         Command::Open(n, w) => answer_open(book, n, w),
-        Command::Grant(_, _, _, _) => only(book, Reply::NoBook),
+        Command::Grant(_, _, _, _, _) => only(book, Reply::NoBook),
         Command::Preview => only(book, Reply::NoBook),
         Command::Remove(_) => only(book, Reply::NoBook),
         Command::Confirm(_) => only(book, Reply::NoBook),
-        Command::Show(_) => only(book, Reply::NoBook),
-        Command::Holder(_, _) => only(book, Reply::NoBook),
+        Command::Show(_, _) => only(book, Reply::NoBook),
+        Command::Holder(_, _, _) => only(book, Reply::NoBook),
         Command::Count => only(book, Reply::NoBook),
         Command::List => only(book, Reply::NoBook),
         Command::Pending => only(book, Reply::NoBook),
@@ -238,12 +241,12 @@ fn answer_book(book: Book, command: Command) -> Answered
 {
     match command {
         Command::Open(_, _) => only(book, Reply::BookThere),
-        Command::Grant(x, y, way, colour) => answer_grant(book, x, y, way, colour),
+        Command::Grant(x, y, way, colour, crew) => answer_grant(book, x, y, way, colour, crew),
         Command::Preview => only(book, Reply::Previewed),
         Command::Remove(serial) => answer_remove(book, serial),
         Command::Confirm(serial) => answer_confirm(book, serial),
-        Command::Show(serial) => only(book, answer_show(book, serial)),
-        Command::Holder(link, colour) => only(book, answer_holder(book, link, colour)),
+        Command::Show(serial, crew) => only(book, answer_show(book, serial, crew)),
+        Command::Holder(link, colour, crew) => only(book, answer_holder(book, link, colour, crew)),
         Command::Count => only(book, Reply::Count(live_count(book), book.grants)),
         Command::List => only(book, Reply::Orders),
         Command::Pending => only(book, Reply::PendingOrders),

@@ -1,4 +1,6 @@
 // The lines of a bundle, as they are typed.
+use super::numbers::CrewedAt;
+use super::numbers::crewed_at;
 use book::Bundle;
 use book::Line;
 use book::bundles::with_line;
@@ -18,7 +20,7 @@ pub enum AskedAt {
 }
 
 // The line at a position that the byte closes.
-fn asked_at(text: &[u8], at: usize, close: u8) -> AskedAt
+pub fn asked_at(text: &[u8], at: usize, close: u8) -> AskedAt
     requires { ⌜ at ≤ length (now text) ⌝ }
     ensures { λ r. ⌜ AskedRead close (now (text .entry)) at r ⌝ }
 {
@@ -34,8 +36,8 @@ fn asked_at(text: &[u8], at: usize, close: u8) -> AskedAt
     let FieldAt::Found(way, fourth) = choice else {
         return AskedAt::Broken;
     };
-    let last = field(text, fourth, close);
-    let FieldAt::Found(colour, next) = last else {
+    let last = crewed_at(text, fourth, close);
+    let CrewedAt::Found(colour, crew, next) = last else {
         return AskedAt::Broken;
     };
     let line = Line {
@@ -43,6 +45,7 @@ fn asked_at(text: &[u8], at: usize, close: u8) -> AskedAt
         y: y,
         way: way,
         colour: colour,
+        crew: crew,
     };
     AskedAt::Asked(line, next)
 }

@@ -2,6 +2,7 @@
 pub mod answers;
 pub mod bundles;
 pub mod lines;
+pub mod numbers;
 pub mod obeying;
 pub mod replies;
 pub mod spaces;

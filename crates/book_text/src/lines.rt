@@ -1,27 +1,32 @@
 // What a line says: a command with its numbers.
+use super::bundles::AskedAt;
+use super::bundles::asked_at;
 use super::bundles::bundle_at;
+use super::numbers::Pair;
+use super::numbers::Single;
+use super::numbers::last_at;
+use super::numbers::pair_at;
+use super::numbers::single_at;
 use super::spaces::squeeze;
 use book::Bundle;
 use ring::buffers::same_bytes;
 use texts::fields::FieldAt;
-use texts::fields::LineAt;
 use texts::fields::field;
-use texts::fields::line;
 ghost use mathlib.Core.Path.{_≡_};
 ghost use Prim.Native.Nat.{_≤_};
 ghost use lib.ListN.{length, take, drop};
-ghost use Rattle.book_text.specs.Lines.{starts, singleOf, pairOf, openOf, grantOf, previewOf, removeOf, confirmOf, showOf, holderOf};
+ghost use Rattle.book_text.specs.Lines.{starts, openOf, grantOf, previewOf, removeOf, confirmOf, showOf, holderOf};
 ghost use Rattle.book.specs.Internal.Bundles.{Bundled};
 ghost use Rattle.book_text.specs.Lines.{linesIn, commandWithNumbers, commandIn, finished, heard, commandOf};
 
 pub enum Command {
     Open(u16, u16),
-    Grant(u16, u16, u16, u16),
+    Grant(u16, u16, u16, u16, u16),
     Preview,
     Remove(u16),
     Confirm(u16),
-    Show(u16),
-    Holder(u16, u16),
+    Show(u16, u16),
+    Holder(u16, u16, u16),
     Count,
     List,
     Pending,
@@ -43,18 +48,6 @@ pub struct Heard {
     pub length: usize,
 }
 
-// One number, and nothing behind it.
-pub enum Single {
-    Broken,
-    One(u16),
-}
-
-// Two numbers, and nothing behind them.
-pub enum Pair {
-    Broken,
-    Two(u16, u16),
-}
-
 // Whether the text begins with the word.
 fn starts(word: &[u8], text: &[u8]) -> bool
     ensures { λ r. ⌜ r ≡ starts (now (word .entry)) (now (text .entry)) ⌝ }
@@ -72,36 +65,6 @@ fn starts(word: &[u8], text: &[u8]) -> bool
     true
 }
 
-// The one number from a position on, closed by the line feed that ends the text.
-fn single_at(text: &[u8], at: usize) -> Single
-    requires { ⌜ at ≤ length (now text) ⌝ }
-    ensures { λ r. ⌜ r ≡ singleOf (drop at (now (text .entry))) ⌝ }
-{
-    let found = field(text, at, b'\n');
-    let FieldAt::Found(x, next) = found else {
-        return Single::Broken;
-    };
-    if next < text.len() {
-        return Single::Broken;
-    }
-    Single::One(x)
-}
-
-// The two numbers from a position on.
-fn pair_at(text: &[u8], at: usize) -> Pair
-    requires { ⌜ at ≤ length (now text) ⌝ }
-    ensures { λ r. ⌜ r ≡ pairOf (drop at (now (text .entry))) ⌝ }
-{
-    let found = line(text, at);
-    let LineAt::Ends(x, y, next) = found else {
-        return Pair::Broken;
-    };
-    if next < text.len() {
-        return Pair::Broken;
-    }
-    Pair::Two(x, y)
-}
-
 fn open_at(text: &[u8], at: usize) -> Command
     requires { ⌜ at ≤ length (now text) ⌝ }
     ensures { λ r. ⌜ r ≡ openOf (drop at (now (text .entry))) ⌝ }
@@ -117,19 +80,14 @@ fn grant_at(text: &[u8], at: usize) -> Command
     requires { ⌜ at ≤ length (now text) ⌝ }
     ensures { λ r. ⌜ r ≡ grantOf (drop at (now (text .entry))) ⌝ }
 {
-    let first = field(text, at, b' ');
-    let FieldAt::Found(x, behind) = first else {
+    let asked = asked_at(text, at, b'\n');
+    let AskedAt::Asked(line, next) = asked else {
         return Command::Aside(Aside::Unreadable);
     };
-    let second = field(text, behind, b' ');
-    let FieldAt::Found(y, rest) = second else {
+    if next < text.len() {
         return Command::Aside(Aside::Unreadable);
-    };
-    let pair = pair_at(text, rest);
-    let Pair::Two(way, colour) = pair else {
-        return Command::Aside(Aside::Unreadable);
-    };
-    Command::Grant(x, y, way, colour)
+    }
+    Command::Grant(line.x, line.y, line.way, line.colour, line.crew)
 }
 
 // The command alone; its lines are read again for the answer.
@@ -170,22 +128,26 @@ fn show_at(text: &[u8], at: usize) -> Command
     requires { ⌜ at ≤ length (now text) ⌝ }
     ensures { λ r. ⌜ r ≡ showOf (drop at (now (text .entry))) ⌝ }
 {
-    let single = single_at(text, at);
-    let Single::One(serial) = single else {
+    let last = last_at(text, at);
+    let Pair::Two(serial, crew) = last else {
         return Command::Aside(Aside::Unreadable);
     };
-    Command::Show(serial)
+    Command::Show(serial, crew)
 }
 
 fn holder_at(text: &[u8], at: usize) -> Command
     requires { ⌜ at ≤ length (now text) ⌝ }
     ensures { λ r. ⌜ r ≡ holderOf (drop at (now (text .entry))) ⌝ }
 {
-    let pair = pair_at(text, at);
-    let Pair::Two(link, colour) = pair else {
+    let first = field(text, at, b' ');
+    let FieldAt::Found(link, behind) = first else {
         return Command::Aside(Aside::Unreadable);
     };
-    Command::Holder(link, colour)
+    let last = last_at(text, behind);
+    let Pair::Two(colour, crew) = last else {
+        return Command::Aside(Aside::Unreadable);
+    };
+    Command::Holder(link, colour, crew)
 }
 
 // A command with numbers behind its word.

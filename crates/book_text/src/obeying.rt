@@ -36,12 +36,12 @@ fn need_of_command(command: Command) -> Need
 {
     match command {
         Command::Open(_, _) => Need::Writing,
-        Command::Grant(_, _, _, _) => Need::Writing,
+        Command::Grant(_, _, _, _, _) => Need::Writing,
         Command::Remove(_) => Need::Writing,
         Command::Confirm(_) => Need::Writing,
         Command::Preview => Need::Reading,
-        Command::Show(_) => Need::Reading,
-        Command::Holder(_, _) => Need::Reading,
+        Command::Show(_, _) => Need::Reading,
+        Command::Holder(_, _, _) => Need::Reading,
         Command::Count => Need::Reading,
         Command::List => Need::Reading,
         Command::Pending => Need::Reading,
@@ -59,7 +59,8 @@ pub fn need_of_line(line: &[u8]) -> Need
     need_of_command(command)
 }
 
-// Puts the stored form of a book into a buffer that has room for the longest. A book that changed has no pending record.
+// Puts the stored form of a book into a buffer that has room for the longest. The records of a book that changed are live
+// and the desk's.
 fn put_form(form: &mut [u8], book: Book) -> usize
     requires { ⌜ 5120 ≤ length (now form) ⌝ }
     ensures { λ r. ⌜ Wrote (now (form .entry)) 0 (storedForm book) (now (form .exit)) r ⌝ }

@@ -215,17 +215,17 @@ fn put_aside(out: &mut [u8], aside: Aside, text: &[u8]) -> usize
         Aside::Help => put(
             out,
             0,
-            b"open N W              begins a book for a ring of N nodes and W colours\n\
-grant X Y WAY COLOUR  enters a circuit between nodes X and Y, WAY 0 plain or 1 seam, and gives its order a serial\n\
-preview LINE, ..      the serials that up to 16 grants would get, each LINE as X Y WAY COLOUR\n\
-remove SERIAL         removes an order; its colour stays held until the pull is confirmed\n\
-confirm SERIAL        confirms that a removed order's patch is pulled, and frees its colour\n\
-show SERIAL           the circuit of an order: its ends, P (plain) or S (seam), its colour\n\
-holder LINK COLOUR    the order that has the colour on the link\n\
-count                 how many orders are live, and how many were granted so far\n\
-list                  every live order with its circuit\n\
-pending               every removed order whose pull is not yet confirmed, with its circuit\n\
-help                  these lines\n",
+            b"open N W                     begins a book for a ring of N nodes and W colours\n\
+grant X Y WAY COLOUR [CREW]  enters a circuit between nodes X and Y, WAY 0 plain or 1 seam, and gives its order a serial\n\
+preview LINE, ..             the serials that up to 16 grants would get, each LINE as X Y WAY COLOUR [CREW]\n\
+remove SERIAL                removes an order; its colour stays held until the pull is confirmed\n\
+confirm SERIAL               confirms that a removed order's patch is pulled, and frees its colour\n\
+show SERIAL [CREW]           the circuit of an order: its ends, P (plain) or S (seam), its colour\n\
+holder LINK COLOUR [CREW]    the order that has the colour on the link\n\
+count                        how many orders are live, and how many were granted so far\n\
+list                         every live order with its circuit\n\
+pending                      every removed order whose pull is not yet confirmed, with its circuit\n\
+help                         these lines\n",
         ),
         Aside::Nothing => 0,
         Aside::Unreadable => put_unreadable(out, text),
@@ -255,7 +255,8 @@ pub fn put_reply(out: &mut [u8], reply: Reply, text: &[u8], book: Book) -> usize
         Reply::Confirmed(serial) => put_one(out, 0, b"confirmed ", serial),
         Reply::Circuit(a, b, way, colour) => put_circuit(out, 0, b"circuit ", a, b, way, colour),
         Reply::Free => put(out, 0, b"free\n"),
-        Reply::Held(serial) => put_one(out, 0, b"held ", serial),
+        Reply::Held => put(out, 0, b"held\n"),
+        Reply::HeldBy(serial) => put_one(out, 0, b"held ", serial),
         Reply::Count(live, grants) => put_two(out, b"live ", live, b" grants ", grants),
         Reply::Orders => put_orders(out, book, true),
         Reply::PendingOrders => put_orders(out, book, false),

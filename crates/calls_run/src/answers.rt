@@ -71,11 +71,19 @@ pub fn write_order(answer: ShowAnswer) {
     }
 }
 
-// The serial of the holder, or 0, which is no serial, for a free link.
+// The line of a holder: its state, then the serial, or 0, which is no serial.
+fn write_state(state: u16, serial: u16) {
+    write_number(b"0 ", state);
+    write_number(b" ", serial);
+    write(b"\n");
+}
+
+// 0 free, 1 held, 2 held by the order whose serial follows: state 1 is what a crew learns of an order that is not its own, or not live.
 pub fn write_holder(answer: HolderAnswer) {
     match answer {
-        HolderAnswer::Free => write_value(0),
-        HolderAnswer::Held(serial) => write_value(serial),
+        HolderAnswer::Free => write_state(0, 0),
+        HolderAnswer::Held => write_state(1, 0),
+        HolderAnswer::HeldBy(serial) => write_state(2, serial),
         HolderAnswer::Refused(refusal) => write_refusal(refusal),
     }
 }

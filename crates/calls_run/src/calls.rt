@@ -1,4 +1,4 @@
-// Calls on a book: five words each, the kind and four arguments, of which most kinds read only the first ones.
+// Calls on a book: six words each, the kind and five arguments, of which most kinds read only the first ones. Crew 0 is the desk.
 use super::answers::write_confirmation;
 use super::answers::write_grant;
 use super::answers::write_holder;
@@ -20,11 +20,12 @@ struct Call {
     second: u16,
     third: u16,
     fourth: u16,
+    fifth: u16,
 }
 
 // The call whose words stand from a position on.
 fn call_at(bytes: &[u8], at: usize) -> Call
-    requires { ⌜ at + 9 < length (now bytes) ⌝ }
+    requires { ⌜ at + 11 < length (now bytes) ⌝ }
 {
     Call {
         kind: word_at(bytes, at),
@@ -32,11 +33,19 @@ fn call_at(bytes: &[u8], at: usize) -> Call
         second: word_at(bytes, at + 4),
         third: word_at(bytes, at + 6),
         fourth: word_at(bytes, at + 8),
+        fifth: word_at(bytes, at + 10),
     }
 }
 
 fn play_grant(book: Book, call: Call) -> Book {
-    let granted = grant(book, call.first, call.second, call.third, call.fourth);
+    let granted = grant(
+        book,
+        call.first,
+        call.second,
+        call.third,
+        call.fourth,
+        call.fifth,
+    );
     let answer = granted.answer;
     write_grant(answer);
     granted.book
@@ -64,11 +73,11 @@ fn play_call(book: Book, call: Call) -> Book {
         1 => play_removal(book, call.first),
         2 => play_confirmation(book, call.first),
         3 => {
-            write_order(show(book, call.first));
+            write_order(show(book, call.first, call.second));
             book
         }
         _ => {
-            write_holder(holder(book, call.first, call.second));
+            write_holder(holder(book, call.first, call.second, call.third));
             book
         }
     }
@@ -78,10 +87,10 @@ fn play_call(book: Book, call: Call) -> Book {
 pub fn play_calls(book: Book, bytes: &[u8]) -> Book {
     let mut current = book;
     let mut at: usize = 0;
-    while 10 <= bytes.len() - at {
+    while 12 <= bytes.len() - at {
         let call = call_at(bytes, at);
         current = play_call(current, call);
-        at += 10;
+        at += 12;
     }
     current
 }

@@ -1,7 +1,7 @@
 // Plays calls on a book in memory, for the tests in Rust. Standard input, of which 65,536 bytes are read at most, is words of 16 bits, low
-// byte first: n, w, then five to a call: 0 x y way colour for a grant, 1 serial for a removal, 2 serial for a confirmation, 3 serial to
-// show an order, any other number with link and colour for a holder, and behind these, up to five, words that nothing depends on.
-// Standard output is a line for each call, and the totals.
+// byte first: n, w, then six to a call: 0 x y way colour crew for a grant, 1 serial for a removal, 2 serial for a confirmation, 3 serial
+// crew to show an order, any other number with link, colour and crew for a holder, and behind these, up to six, words that nothing depends
+// on. Standard output is a line for each call, and the totals.
 mod answers;
 mod calls;
 

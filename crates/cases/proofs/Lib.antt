@@ -1,4 +1,4 @@
--- The proof of the table.
+-- The proof of the table, and of the case of crews.
 pub mod Sizes
 pub mod Plans
 pub mod Texts

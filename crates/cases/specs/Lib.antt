@@ -1,2 +1,3 @@
 -- The cases of the rules that are proved.
+pub mod Crews
 pub mod Table

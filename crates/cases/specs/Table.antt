@@ -25,6 +25,7 @@ use Rattle.book.specs.declared.grants.GrantAnswer.the-variants as grant
 use Rattle.book.specs.declared.removals.RemoveAnswer.the-variants as remove
 use Rattle.book.specs.declared.confirmations.ConfirmAnswer.the-variants as confirm
 use Rattle.book.specs.declared.orders.ShowAnswer.the-variants as show
+use Rattle.book.specs.Circuits.{desk}
 use Rattle.book.specs.Books.{opened}
 use Rattle.book.specs.History.{Call, Grant, Remove, Confirm, Show, GrantAnswered, RemoveAnswered, ConfirmAnswered, ShowAnswered, event}
 use Rattle.book.specs.History.{run, history}
@@ -110,24 +111,26 @@ pub record T5 : Type 0 where
 pub record T6 : Type 0 where
   pub plans : (n w : ℕ) → 3 ≤ n → n ≤ 256 → 1 ≤ w → w ≤ 128 → Plans n w [] (line2 0 0 0 part.Chain 0) []
 
--- T7 up to its removal, the latest call first
+-- T7 up to its removal, the latest call first; all its calls are the desk's
 abbrev pub removedT7 : List Call
-removedT7 = Remove 1 ∷ Grant 1 3 0 0 ∷ Grant 2 3 0 0 ∷ Grant 0 2 0 0 ∷ []
+removedT7 = Remove 1 ∷ Grant 1 3 0 0 desk ∷ Grant 2 3 0 0 desk ∷ Grant 0 2 0 0 desk ∷ []
 
 -- T7 n 4, w 1: the grants, the removal with "a confirmation after" it, and the shows; without the confirmation {0,1} plain is 11
 pub record T7 : Type 0 where
-  pub answers : history (opened 4 1 .book) (Show 4 ∷ Show 1 ∷ Grant 0 1 0 0 ∷ Grant 0 2 1 0 ∷ Confirm 1 ∷ removedT7)
-      ≡ ShowAnswered 4 (show.Refused SerialNeverGiven)
-      ∷ ShowAnswered 1 (show.Refused SerialRemoved)
-      ∷ GrantAnswered 0 1 0 0 (grant.Granted 3)
-      ∷ GrantAnswered 0 2 1 0 (grant.Refused ColourHeld)
+  pub answers : history (opened 4 1 .book)
+      (Show 4 desk ∷ Show 1 desk ∷ Grant 0 1 0 0 desk ∷ Grant 0 2 1 0 desk ∷ Confirm 1 ∷ removedT7)
+      ≡ ShowAnswered 4 desk (show.Refused SerialNeverGiven)
+      ∷ ShowAnswered 1 desk (show.Refused SerialRemoved)
+      ∷ GrantAnswered 0 1 0 0 desk (grant.Granted 3)
+      ∷ GrantAnswered 0 2 1 0 desk (grant.Refused ColourHeld)
       ∷ ConfirmAnswered 1 confirm.Confirmed
       ∷ RemoveAnswered 1 remove.Removed
-      ∷ GrantAnswered 1 3 0 0 (grant.Refused ColourHeld)
-      ∷ GrantAnswered 2 3 0 0 (grant.Granted 2)
-      ∷ GrantAnswered 0 2 0 0 (grant.Granted 1)
+      ∷ GrantAnswered 1 3 0 0 desk (grant.Refused ColourHeld)
+      ∷ GrantAnswered 2 3 0 0 desk (grant.Granted 2)
+      ∷ GrantAnswered 0 2 0 0 desk (grant.Granted 1)
       ∷ []
-  pub unconfirmed : event (run (opened 4 1 .book) removedT7) (Grant 0 1 0 0) ≡ GrantAnswered 0 1 0 0 (grant.Refused ColourHeld)
+  pub unconfirmed : event (run (opened 4 1 .book) removedT7) (Grant 0 1 0 0 desk)
+      ≡ GrantAnswered 0 1 0 0 desk (grant.Refused ColourHeld)
   pub colour-held : numberOf ColourHeld ≡ 11
   pub never-given : numberOf SerialNeverGiven ≡ 14
   pub gone : numberOf SerialRemoved ≡ 15

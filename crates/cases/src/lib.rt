@@ -1,1 +1,2 @@
-// The cases of the rules that are proved: the table stands in specs/Table.antt, its proof in proofs/Table.antt. No code.
+// The cases of the rules that are proved: the table stands in specs/Table.antt, its proof in proofs/Table.antt. A case of crews stands in
+// specs/Crews.antt, its proof in proofs/Book.antt. No code.

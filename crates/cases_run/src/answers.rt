@@ -147,9 +147,9 @@ fn write_grant(answer: GrantAnswer) {
     }
 }
 
-// A grant in colour 0, and the book after it.
+// A grant in colour 0, the desk's, and the book after it.
 pub fn show_grant(book: Book, x: u16, y: u16, way: u16) -> Book {
-    let granted = grant(book, x, y, way, 0);
+    let granted = grant(book, x, y, way, 0, 0);
     let answer = granted.answer;
     write_grant(answer);
     granted.book
@@ -191,13 +191,14 @@ pub fn show_confirmation(book: Book, serial: u16) -> Book {
     confirmed.book
 }
 
-// The holder of colour 0 on a link.
+// The holder of colour 0 on a link, as the desk reads it, which always learns the serial.
 pub fn show_holder(book: Book, link: u16) {
     write_number(b"link ", link);
-    let answer = holder(book, link, 0);
+    let answer = holder(book, link, 0, 0);
     match answer {
         HolderAnswer::Free => write(b": free\n"),
-        HolderAnswer::Held(serial) => {
+        HolderAnswer::Held => write(b": held\n"),
+        HolderAnswer::HeldBy(serial) => {
             write_number(b": ", serial);
             write(b"\n");
         }

@@ -13,11 +13,11 @@ use Rattle.book.specs.declared.books.Book.{Book}
 use Rattle.book.specs.declared.grants.Granted.{Granted}
 use Rattle.book.specs.Books.{Valid, bookOf, openUnless, opened, openInNumbers}
 use Rattle.book.specs.Grants.{circuitOf, grantVerdict, grantUnless, granted, grantInNumbers}
-use Rattle.book.specs.Orders.{shown, showInNumbers}
+use Rattle.book.specs.Orders.{shownTo, showInNumbers}
 use Rattle.book.specs.Previews.{previewedAll, previewInNumbers}
 use Rattle.book.specs.Removals.{removed, removeInNumbers}
 use Rattle.book.specs.Confirmations.{confirmed, confirmInNumbers}
-use Rattle.book.specs.Holders.{heldBy, holderInNumbers}
+use Rattle.book.specs.Holders.{heldFor, holderInNumbers}
 use Rattle.book.specs.History.{Call, Grant, Remove, Confirm, Show, Holder, after, run}
 use Rattle.book.proofs.Opening.{opened-valid}
 use Rattle.book.proofs.Outcomes.{removal-cases, confirmation-cases}
@@ -30,19 +30,21 @@ use Rattle.export.specs.Outcomes.{Outcome}
 use Rattle.export.specs.BookCalls.{front, refusing, storing, changing, grantOn, removeOn, confirmOn, openCall, grantCall}
 use Rattle.export.specs.BookCalls.{removeCall, confirmCall, showCall, holderCall, linesOfEntries, previewCall}
 use Rattle.export.specs.Histories.{Kept, keptBy, answerOf, keptAfter, keptRun, unstored, storedCalls, openedIn, CallHistories}
-use Rattle.export.proofs.Keeping.{Holds, held-valid, changed-held, asked-held, bookAfter, Stores, pending, no-room, whole, stores}
+use Rattle.export.proofs.Keeping.{Holds, held-valid, changed-held, asked-held, bookAfter, Stores, marked, no-room, whole, stores}
 use Rattle.export.proofs.Keeping.{whole-holds, storing-holds, refusing-holds}
 use Rattle.export.proofs.OutcomeLaws.{on-refusal}
 
 -- a change by its answer and its book
 module _ (kept : Kept) (b : Book) (h : Holds kept b) where
-  grant-on-holds : (x y way colour : ℕ)
-      → let o = grantOn b x y way colour (kept .buffer) in Holds (keptBy kept 1 o) (bookAfter o b (granted b x y way colour .book))
+  grant-on-holds : (x y way colour crew : ℕ)
+      → let o = grantOn b x y way colour crew (kept .buffer) in
+      Holds (keptBy kept 1 o) (bookAfter o b (granted b x y way colour crew .book))
   unfolding granted
-  grant-on-holds x y way colour = go (grantVerdict b x y way colour) (keeps-valid .granting b (held-valid kept b h) x y way colour)
+  grant-on-holds x y way colour crew =
+      go (grantVerdict b x y way colour crew) (keeps-valid .granting b (held-valid kept b h) x y way colour crew)
     where
       made : Verdict → Granted
-      made v = grantUnless v b (circuitOf (b .grants + 1) x y way colour)
+      made v = grantUnless v b (circuitOf (b .grants + 1) x y way colour crew)
 
       go : (v : Verdict) → Valid (made v .book)
           → let o = changing (grantInNumbers (made v .answer)) (made v .book) (kept .buffer) in
@@ -69,10 +71,10 @@ module _ (kept : Kept) (b : Book) (h : Holds kept b) where
   -- the book after one call
   step : (call : Call) → Holds (keptAfter kept call) (cond (unstored (answerOf kept call)) b (after b call))
   unfolding grantCall removeCall confirmCall
-  step (Grant x y way colour) =
-      subst (λ (o : Outcome). Holds (keptBy kept 1 o) (bookAfter o b (granted b x y way colour .book)))
-      (sym (changed-held kept b h (λ (d : Book). grantOn d x y way colour (kept .buffer))))
-      (grant-on-holds x y way colour)
+  step (Grant x y way colour crew) =
+      subst (λ (o : Outcome). Holds (keptBy kept 1 o) (bookAfter o b (granted b x y way colour crew .book)))
+      (sym (changed-held kept b h (λ (d : Book). grantOn d x y way colour crew (kept .buffer))))
+      (grant-on-holds x y way colour crew)
   step (Remove serial) =
       subst (λ (o : Outcome). Holds (keptBy kept 0 o) (bookAfter o b (removed b serial .book)))
       (sym (changed-held kept b h (λ (d : Book). removeOn d serial (kept .buffer))))
@@ -81,12 +83,12 @@ module _ (kept : Kept) (b : Book) (h : Holds kept b) where
       subst (λ (o : Outcome). Holds (keptBy kept 0 o) (bookAfter o b (confirmed b serial .book)))
       (sym (changed-held kept b h (λ (d : Book). confirmOn d serial (kept .buffer))))
       (confirm-on-holds serial)
-  step (Show serial) = same (unstored (answerOf kept (Show serial)))
+  step (Show serial crew) = same (unstored (answerOf kept (Show serial crew)))
     where
       same : (t : Bool) → Holds kept (cond t b b)
       same true = h
       same false = h
-  step (Holder link colour) = same (unstored (answerOf kept (Holder link colour)))
+  step (Holder link colour crew) = same (unstored (answerOf kept (Holder link colour crew)))
     where
       same : (t : Bool) → Holds kept (cond t b b)
       same true = h
@@ -119,11 +121,11 @@ opens-book n w buffer = go (ringVerdict n w) refl
       where
         first : Stores [] (bookOf n w 0 []) buffer → storing [] (bookOf n w 0 []) buffer .answer .number ≡ 0
             → Holds (keptBy (record { buffer = buffer; size = 0 }) 0 (storing [] (bookOf n w 0 []) buffer)) (bookOf n w 0 [])
-        first (pending s) accepted = absurd (omega (arith, ap (λ (o : Outcome). o .answer .number) s))
+        first (marked s) accepted = absurd (omega (arith, ap (λ (o : Outcome). o .answer .number) s))
         first (no-room s) accepted = absurd (omega (arith, ap (λ (o : Outcome). o .answer .number) s))
-        first (whole live s) accepted =
+        first (whole unmarked s) accepted =
             subst (λ (o : Outcome). Holds (keptBy (record { buffer = buffer; size = 0 }) 0 o) (bookOf n w 0 [])) (sym s)
-            (whole-holds [] 0 (bookOf n w 0 []) (record { buffer = buffer; size = 0 }) (opened-valid n w e) live refl)
+            (whole-holds [] 0 (bookOf n w 0 []) (record { buffer = buffer; size = 0 }) (opened-valid n w e) unmarked refl)
     go (verdict.Refused r) e accepted =
         let o = on-refusal r (storing (refuses r .values) (bookOf 0 0 0 []) buffer) (refusing (refuses r) buffer) in
         absurd (omega (arith, line-of r refl .0, ap (λ (o : Outcome). o .answer .number) o))
@@ -143,12 +145,12 @@ call-histories n w buffer accepted calls =
         loads = held;
         after = every-history n w (opens .allowed) (storedCalls (openedIn n w buffer) calls);
       };
-      grants = λ x y way colour.
-          ap (λ (o : Outcome). o .answer) (changed-held kept b held (λ (d : Book). grantOn d x y way colour (kept .buffer)));
+      grants = λ x y way colour crew.
+          ap (λ (o : Outcome). o .answer) (changed-held kept b held (λ (d : Book). grantOn d x y way colour crew (kept .buffer)));
       removals = λ serial. ap (λ (o : Outcome). o .answer) (changed-held kept b held (λ (d : Book). removeOn d serial (kept .buffer)));
       confirmations = λ serial.
           ap (λ (o : Outcome). o .answer) (changed-held kept b held (λ (d : Book). confirmOn d serial (kept .buffer)));
-      shows = λ serial. asked-held kept b held (λ (d : Book). showInNumbers (shown d serial));
-      holders = λ link colour. asked-held kept b held (λ (d : Book). holderInNumbers (heldBy d link colour));
+      shows = λ serial crew. asked-held kept b held (λ (d : Book). showInNumbers (shownTo crew d serial));
+      holders = λ link colour crew. asked-held kept b held (λ (d : Book). holderInNumbers (heldFor crew d link colour));
       previews = λ entries. asked-held kept b held (λ (d : Book). previewInNumbers (previewedAll d (linesOfEntries entries)));
     }

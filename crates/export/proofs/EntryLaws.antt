@@ -1,4 +1,4 @@
--- Entries, four to a line, on their way into a bundle; and the serials of a preview on their way into values.
+-- Entries, five to a line, on their way into a bundle; and the serials of a preview on their way into values.
 use Prim.Native.Nat.{ℕ, _+_, _*_, _/_, _%_, _≤_, _<_}
 use mathlib.Core.Path.{_≡_, refl, sym, _∙_, ap, subst}
 use mathlib.Core.List.{List, [], _∷_, _++_, append-nil}
@@ -16,39 +16,42 @@ use Rattle.book.specs.Previews.{serialsOf, previewed, previewedAll, previewNumb
 use Rattle.book.specs.Internal.Bundles.{Bundled}
 use Rattle.book.proofs.BundleLaws.{bundle-says}
 use Rattle.export.specs.Outcomes.{putFrom}
-use Rattle.export.specs.BookCalls.{lineAt, fours, linesOfEntries}
+use Rattle.export.specs.BookCalls.{lineAt, fives, linesOfEntries}
 
 -- whether every entry is of a line
-pub lines-none : (entries : List ℕ) → (length entries % 4 ≡ 0 → ⊥) → linesOfEntries entries ≡ []
+pub lines-none : (entries : List ℕ) → (length entries % 5 ≡ 0 → ⊥) → linesOfEntries entries ≡ []
 unfolding linesOfEntries
-lines-none entries h = rw (ne-eqb (length entries % 4) 0 h) refl
+lines-none entries h = rw (ne-eqb (length entries % 5) 0 h) refl
 
-lines-all : (entries : List ℕ) → length entries % 4 ≡ 0 → linesOfEntries entries ≡ fours entries
+lines-all : (entries : List ℕ) → length entries % 5 ≡ 0 → linesOfEntries entries ≡ fives entries
 unfolding linesOfEntries
-lines-all entries h = rw (eq-eqb (length entries % 4) 0 h) refl
+lines-all entries h = rw (eq-eqb (length entries % 5) 0 h) refl
 
-fours-count : (entries : List ℕ) → length (fours entries) ≡ length entries / 4
-fours-count (x ∷ y ∷ way ∷ colour ∷ rest) = let r = fours-count rest in omega arith
-fours-count (x ∷ y ∷ way ∷ []) = omega arith
-fours-count (x ∷ y ∷ []) = omega arith
-fours-count (x ∷ []) = omega arith
-fours-count [] = omega arith
+fives-count : (entries : List ℕ) → length (fives entries) ≡ length entries / 5
+fives-count (x ∷ y ∷ way ∷ colour ∷ crew ∷ rest) = let r = fives-count rest in omega arith
+fives-count (x ∷ y ∷ way ∷ colour ∷ []) = omega arith
+fives-count (x ∷ y ∷ way ∷ []) = omega arith
+fives-count (x ∷ y ∷ []) = omega arith
+fives-count (x ∷ []) = omega arith
+fives-count [] = omega arith
 
 -- more lines than there is room for
-pub bundled-many : (entries : List ℕ) (lines : List Line) → length entries % 4 ≡ 0 → 16 < length entries / 4
-    → Bundled (record { count = length entries / 4; lines = lines }) (linesOfEntries entries)
+pub bundled-many : (entries : List ℕ) (lines : List Line) → length entries % 5 ≡ 0 → 16 < length entries / 5
+    → Bundled (record { count = length entries / 5; lines = lines }) (linesOfEntries entries)
 bundled-many entries lines h k =
-    let n : length (linesOfEntries entries) ≡ length entries / 4 = ap length (lines-all entries h) ∙ fours-count entries in
+    let n : length (linesOfEntries entries) ≡ length entries / 5 = ap length (lines-all entries h) ∙ fives-count entries in
     record { few = λ m. absurd (omega arith); many = λ m. k }
 
--- the four numbers of a line
-four-next : (entries : List ℕ) (at : ℕ) → at + 4 ≤ length entries
+-- the five numbers of a line
+five-next : (entries : List ℕ) (at : ℕ) → at + 5 ≤ length entries
     → drop at entries
-    ≡ getD entries at 0 ∷ getD entries (at + 1) 0 ∷ getD entries (at + 2) 0 ∷ getD entries (at + 3) 0 ∷ drop (at + 4) entries
-four-next entries at h =
+    ≡ getD entries at 0 ∷ getD entries (at + 1) 0 ∷ getD entries (at + 2) 0 ∷ getD entries (at + 3) 0 ∷ getD entries (at + 4) 0
+    ∷ drop (at + 5) entries
+five-next entries at h =
     let e₂ : at + 1 + 1 ≡ at + 2 = omega arith in
     let e₃ : at + 2 + 1 ≡ at + 3 = omega arith in
     let e₄ : at + 3 + 1 ≡ at + 4 = omega arith in
+    let e₅ : at + 4 + 1 ≡ at + 5 = omega arith in
     rw (
       drop-next entries at 0 (omega arith),
       drop-next entries (at + 1) 0 (omega arith),
@@ -57,6 +60,8 @@ four-next entries at h =
       e₃,
       drop-next entries (at + 3) 0 (omega arith),
       e₄,
+      drop-next entries (at + 4) 0 (omega arith),
+      e₅,
     )
     refl
 
@@ -64,30 +69,30 @@ four-next entries at h =
 pub record Filling (entries : List ℕ) (i : ℕ) (bundle : Bundle) : Type 0 where
   pub before : List Line
   pub has : Bundled bundle before
-  pub same : before ++ fours (drop (4 * i) entries) ≡ fours entries
+  pub same : before ++ fives (drop (5 * i) entries) ≡ fives entries
 
 pub filling-begins : (entries : List ℕ) {bundle : Bundle} → Bundled bundle [] → Filling entries 0 bundle
 filling-begins entries b = record { before = []; has = b; same = refl }
 
 module _ (entries : List ℕ) (i : ℕ) {bundle : Bundle} (f : Filling entries i bundle) where
-  pub filling-goes-on : 4 * i + 4 ≤ length entries → {more : Bundle} {l : Line} → l ≡ lineAt entries (4 * i)
+  pub filling-goes-on : 5 * i + 5 ≤ length entries → {more : Bundle} {l : Line} → l ≡ lineAt entries (5 * i)
       → ((ls : List Line) → Bundled bundle ls → Bundled more (ls ++ (l ∷ []))) → Filling entries (i + 1) more
   filling-goes-on h {more} {l} e b = record {
     before = f .before ++ (l ∷ []);
     has = b (f .before) (f .has);
     same =
-        let at : 4 * (i + 1) ≡ 4 * i + 4 = omega arith in
-        append-snoc (f .before) l (fours (drop (4 * (i + 1)) entries))
-        ∙ (ap (λ (k : ℕ). f .before ++ (l ∷ fours (drop k entries))) at
-        ∙ (ap (λ (x : Line). f .before ++ (x ∷ fours (drop (4 * i + 4) entries))) e
-        ∙ (ap (λ (xs : List ℕ). f .before ++ fours xs) (sym (four-next entries (4 * i) h)) ∙ f .same)));
+        let at : 5 * (i + 1) ≡ 5 * i + 5 = omega arith in
+        append-snoc (f .before) l (fives (drop (5 * (i + 1)) entries))
+        ∙ (ap (λ (k : ℕ). f .before ++ (l ∷ fives (drop k entries))) at
+        ∙ (ap (λ (x : Line). f .before ++ (x ∷ fives (drop (5 * i + 5) entries))) e
+        ∙ (ap (λ (xs : List ℕ). f .before ++ fives xs) (sym (five-next entries (5 * i) h)) ∙ f .same)));
   }
 
-  pub filling-ends : length entries % 4 ≡ 0 → length entries ≤ 4 * i → Bundled bundle (linesOfEntries entries)
+  pub filling-ends : length entries % 5 ≡ 0 → length entries ≤ 5 * i → Bundled bundle (linesOfEntries entries)
   filling-ends h k =
       subst (Bundled bundle)
       (sym (append-nil (f .before))
-      ∙ (ap (λ (xs : List ℕ). f .before ++ fours xs) (sym (drop-of-length-le entries k)) ∙ (f .same ∙ sym (lines-all entries h))))
+      ∙ (ap (λ (xs : List ℕ). f .before ++ fives xs) (sym (drop-of-length-le entries k)) ∙ (f .same ∙ sym (lines-all entries h))))
       (f .has)
 
 -- one serial more

@@ -9,10 +9,10 @@ use lib.Dec.{eqb, ltb}
 use lib.ListN.{length, drop, getD, length-append}
 use lib.Seq.{take-at}
 use Rattle.ring.specs.declared.refusals.Refusal.{Refusal}
-use Rattle.ring.specs.declared.refusals.Refusal.the-variants.{BufferShort, PendingRecord}
+use Rattle.ring.specs.declared.refusals.Refusal.the-variants.{BufferShort, MarkedRecord}
 use Rattle.ring.specs.Answers.{InNumbers, gives, refuses}
 use Rattle.book.specs.declared.books.Book.{Book}
-use Rattle.book.specs.Books.{hasPending, Valid, opened, openInNumbers}
+use Rattle.book.specs.Books.{hasMarked, Valid, opened, openInNumbers}
 use Rattle.book.specs.Grants.{granted, grantInNumbers}
 use Rattle.book.specs.Removals.{removed, removeInNumbers}
 use Rattle.book.specs.Confirmations.{confirmed, confirmInNumbers}
@@ -21,7 +21,7 @@ use Rattle.stored.specs.declared.loads.Loaded.{Loaded}
 use Rattle.stored.specs.Forms.{storedForm}
 use Rattle.stored.specs.Storing.{lengthOf, formAnswer, afterForm, storeAnswer, afterStore, storeInNumbers}
 use Rattle.stored.specs.Loading.{lengthWrong, loaded, loadInNumbers}
-use Rattle.stored.proofs.StoreLaws.{form-length, store-pending}
+use Rattle.stored.proofs.StoreLaws.{form-length, store-marked}
 use Rattle.stored.proofs.LoadLaws.{load-length}
 use Rattle.stored.proofs.Promised.{reads-back}
 use Rattle.export.specs.Outcomes.{Outcome, onSuccess}
@@ -59,9 +59,9 @@ unfolding openCall grantCall removeCall confirmCall
 refused-leaves = record {
   opening = λ n w buffer. leaves-changing (openInNumbers (opened n w .answer)) (opened n w .book) buffer;
   granting =
-      λ buffer size x y way colour.
-      leaves-loaded buffer size (λ (b : Book). grantOn b x y way colour buffer)
-      (λ b. leaves-changing (grantInNumbers (granted b x y way colour .answer)) (granted b x y way colour .book) buffer);
+      λ buffer size x y way colour crew.
+      leaves-loaded buffer size (λ (b : Book). grantOn b x y way colour crew buffer)
+      (λ b. leaves-changing (grantInNumbers (granted b x y way colour crew .answer)) (granted b x y way colour crew .book) buffer);
   removing =
       λ buffer size serial.
       leaves-loaded buffer size (λ (b : Book). removeOn b serial buffer)
@@ -103,36 +103,36 @@ front-form b rest =
 abbrev pub bookAfter : Outcome → Book → Book → Book
 bookAfter o b d = cond (unstored (o .answer)) b d
 
--- a book with a pending record is not stored
-pub pending-refused : (values : List ℕ) (d : Book) (buffer : List ℕ) → hasPending d ≡ true
-    → storing values d buffer ≡ refusing (refuses PendingRecord) buffer
-pending-refused values d buffer e = rw (sym (store-pending d buffer e .0)) refl
+-- a book with a record that is pending or of another crew than the desk is not stored
+pub marked-refused : (values : List ℕ) (d : Book) (buffer : List ℕ) → hasMarked d ≡ true
+    → storing values d buffer ≡ refusing (refuses MarkedRecord) buffer
+marked-refused values d buffer e = rw (sym (store-marked d buffer e .0)) refl
 
--- a book has a pending record, or there is no room for it, or it is stored whole
+-- a book has such a record, or there is no room for it, or it is stored whole
 pub data Stores (values : List ℕ) (d : Book) (buffer : List ℕ) : Type 0 where
-  pending : storing values d buffer ≡ refusing (refuses PendingRecord) buffer → Stores values d buffer
+  marked : storing values d buffer ≡ refusing (refuses MarkedRecord) buffer → Stores values d buffer
   no-room : storing values d buffer ≡ refusing (refuses BufferShort) buffer → Stores values d buffer
-  whole : hasPending d ≡ false → storing values d buffer
+  whole : hasMarked d ≡ false → storing values d buffer
       ≡ record { answer = gives (values ++ (lengthOf d ∷ [])); buffer = storedForm d ++ drop (lengthOf d) buffer } → Stores values d buffer
 
 pub stores : (values : List ℕ) (d : Book) (buffer : List ℕ) → Stores values d buffer
 unfolding storeAnswer afterStore formAnswer afterForm
-stores values d buffer = go (hasPending d) refl (ltb (length buffer) (lengthOf d)) refl
+stores values d buffer = go (hasMarked d) refl (ltb (length buffer) (lengthOf d)) refl
   where
-    go : (t : Bool) → hasPending d ≡ t → (short : Bool) → ltb (length buffer) (lengthOf d) ≡ short → Stores values d buffer
-    go true p short e = pending (pending-refused values d buffer p)
+    go : (t : Bool) → hasMarked d ≡ t → (short : Bool) → ltb (length buffer) (lengthOf d) ≡ short → Stores values d buffer
+    go true p short e = marked (marked-refused values d buffer p)
     go false p true e = no-room (rw (p, e) refl)
     go false p false e = whole p (rw (p, e) refl)
 
 -- a stored book is held
-pub whole-holds : (values : List ℕ) (entry : ℕ) (d : Book) (kept : Kept) → Valid d → hasPending d ≡ false
+pub whole-holds : (values : List ℕ) (entry : ℕ) (d : Book) (kept : Kept) → Valid d → hasMarked d ≡ false
     → getD (values ++ (lengthOf d ∷ [])) entry 0 ≡ lengthOf d
     → Holds (keptBy kept entry
     (record { answer = gives (values ++ (lengthOf d ∷ [])); buffer = storedForm d ++ drop (lengthOf d) (kept .buffer) })) d
-whole-holds values entry d kept v live length-there =
+whole-holds values entry d kept v unmarked length-there =
     ap (λ (size : ℕ). loaded (front size (storedForm d ++ drop (lengthOf d) (kept .buffer)))) length-there
     ∙ ap loaded (front-form d (drop (lengthOf d) (kept .buffer)))
-    ∙ reads-back d v live
+    ∙ reads-back d v unmarked
 
 -- a change that is stored, or for which the stored form or the buffer has no room
 pub storing-holds : (kept : Kept) (b : Book) → Holds kept b → (values : List ℕ) (entry : ℕ) (d : Book) → Valid d
@@ -144,9 +144,9 @@ storing-holds kept b h values entry d v length-there = go (stores values d (kept
     Held o = Holds (keptBy kept entry o) (bookAfter o b d)
 
     go : Stores values d (kept .buffer) → Held (storing values d (kept .buffer))
-    go (pending e) = subst Held (sym e) h
+    go (marked e) = subst Held (sym e) h
     go (no-room e) = subst Held (sym e) h
-    go (whole live e) = subst Held (sym e) (whole-holds values entry d kept v live length-there)
+    go (whole unmarked e) = subst Held (sym e) (whole-holds values entry d kept v unmarked length-there)
 
 -- a change that is refused, which leaves the book
 pub refusing-holds : (kept : Kept) (b : Book) → Holds kept b → (entry : ℕ) (r : Refusal) (next : Outcome) (d : Book) → d ≡ b

@@ -8,7 +8,7 @@ use lib.Dec.{eqb, ltb}
 use lib.ListN.{length, take, drop}
 use borrow.Author.Tests.{ne-eqb, lt-ltb, le-ltb}
 use Rattle.ring.specs.declared.refusals.Refusal.{Refusal}
-use Rattle.ring.specs.declared.refusals.Refusal.the-variants.{BufferShort, PendingRecord}
+use Rattle.ring.specs.declared.refusals.Refusal.the-variants.{BufferShort, MarkedRecord}
 use Rattle.ring.specs.Answers.{InNumbers, gives, refuses}
 use Rattle.ring.specs.Refusals.{numberOf}
 use Rattle.texts.proofs.GroundLaws.{line-of}
@@ -25,7 +25,7 @@ use Rattle.book.specs.declared.removals.Removed.{Removed}
 use Rattle.book.specs.declared.confirmations.ConfirmAnswer.{ConfirmAnswer}
 use Rattle.book.specs.declared.confirmations.ConfirmAnswer.the-variants as confirm
 use Rattle.book.specs.declared.confirmations.Confirmed.{Confirmed}
-use Rattle.book.specs.Books.{hasPending, Valid, opened, openInNumbers}
+use Rattle.book.specs.Books.{hasMarked, Valid, opened, openInNumbers}
 use Rattle.book.specs.Grants.{granted, grantInNumbers}
 use Rattle.book.specs.Removals.{removed, removeInNumbers}
 use Rattle.book.specs.Confirmations.{confirmed, confirmInNumbers}
@@ -72,10 +72,10 @@ pub by-open : (n w : ℕ) (buffer : List ℕ) {o : Opened} {a : OpenAnswer} → 
 unfolding openCall
 by-open n w buffer = by-answer (λ (x : Opened). x .answer) (λ (a : OpenAnswer) (x : Opened). changing (openInNumbers a) (x .book) buffer)
 
-pub by-grant : (b : Book) (x y way colour : ℕ) (buffer : List ℕ) {g : Granted} {a : GrantAnswer} → g ≡ granted b x y way colour
+pub by-grant : (b : Book) (x y way colour crew : ℕ) (buffer : List ℕ) {g : Granted} {a : GrantAnswer} → g ≡ granted b x y way colour crew
     → g .answer ≡ a
-    → changing (grantInNumbers a) (g .book) buffer ≡ grantOn b x y way colour buffer
-by-grant b x y way colour buffer =
+    → changing (grantInNumbers a) (g .book) buffer ≡ grantOn b x y way colour crew buffer
+by-grant b x y way colour crew buffer =
     by-answer (λ (g : Granted). g .answer) (λ (a : GrantAnswer) (g : Granted). changing (grantInNumbers a) (g .book) buffer)
 
 pub by-remove : (b : Book) (serial : ℕ) (buffer : List ℕ) {r : Removed} {a : RemoveAnswer} → r ≡ removed b serial → r .answer ≡ a
@@ -107,11 +107,12 @@ module _ (r : Refusal) where
   open-refused n w buffer {o} e g = sym (on-refusal r (storing (refuses r .values) (o .book) buffer) (refusing (refuses r) buffer))
       ∙ by-open n w buffer e g
 
-  pub grant-refused : (b : Book) (x y way colour : ℕ) (buffer : List ℕ) {g : Granted} → g ≡ granted b x y way colour
+  pub grant-refused : (b : Book) (x y way colour crew : ℕ) (buffer : List ℕ) {g : Granted} → g ≡ granted b x y way colour crew
       → g .answer ≡ grant.Refused r
-      → refusing (refuses r) buffer ≡ grantOn b x y way colour buffer
-  grant-refused b x y way colour buffer {g} e f =
-      sym (on-refusal r (storing (refuses r .values) (g .book) buffer) (refusing (refuses r) buffer)) ∙ by-grant b x y way colour buffer e f
+      → refusing (refuses r) buffer ≡ grantOn b x y way colour crew buffer
+  grant-refused b x y way colour crew buffer {g} e f =
+      sym (on-refusal r (storing (refuses r .values) (g .book) buffer) (refusing (refuses r) buffer))
+      ∙ by-grant b x y way colour crew buffer e f
 
   pub remove-refused : (b : Book) (serial : ℕ) (buffer : List ℕ) {d : Removed} → d ≡ removed b serial → d .answer ≡ remove.Refused r
       → refusing (refuses r) buffer ≡ removeOn b serial buffer
@@ -149,14 +150,14 @@ module _ (size : ℕ) (buffer : List ℕ) where
 -- a store that is refused has written nothing
 pub short-kept : (b : Book) (buffer : List ℕ) (r : Refusal) → storeAnswer b buffer ≡ store.Refused r → afterStore b buffer ≡ buffer
 unfolding storeAnswer afterStore formAnswer afterForm
-short-kept b buffer r = go (hasPending b)
+short-kept b buffer r = go (hasMarked b)
   where
     form : (t : Bool) → cond t (store.Refused BufferShort) (store.Stored (lengthOf b)) ≡ store.Refused r
         → cond t buffer (storedForm b ++ drop (lengthOf b) buffer) ≡ buffer
     form true e = refl
     form false e = let z : _≡_ {A = ℕ} 0 1 = cc in absurd (omega arith)
 
-    go : (t : Bool) → cond t (store.Refused PendingRecord) (formAnswer b buffer) ≡ store.Refused r
+    go : (t : Bool) → cond t (store.Refused MarkedRecord) (formAnswer b buffer) ≡ store.Refused r
         → cond t buffer (afterForm b buffer) ≡ buffer
     go true e = refl
     go false e = form (ltb (length buffer) (lengthOf b)) e

@@ -12,8 +12,8 @@ use Rattle.book.specs.Grants.{granted, grantInNumbers}
 use Rattle.book.specs.Previews.{previewedAll, previewInNumbers}
 use Rattle.book.specs.Removals.{removed, removeInNumbers}
 use Rattle.book.specs.Confirmations.{confirmed, confirmInNumbers}
-use Rattle.book.specs.Orders.{shown, showInNumbers}
-use Rattle.book.specs.Holders.{heldBy, holderInNumbers}
+use Rattle.book.specs.Orders.{shownTo, showInNumbers}
+use Rattle.book.specs.Holders.{heldFor, holderInNumbers}
 use Rattle.stored.specs.Storing.{storeAnswer, afterStore, storeInNumbers}
 use Rattle.stored.specs.Loading.{loaded, loadInNumbers}
 use Rattle.export.specs.Outcomes.{Outcome, onSuccess}
@@ -37,9 +37,10 @@ storing values b buffer =
 abbrev pub changing : InNumbers → Book → List ℕ → Outcome
 changing answer b buffer = onSuccess answer (storing (answer .values) b buffer) (refusing answer buffer)
 
--- a grant on a book
-abbrev pub grantOn : Book → ℕ → ℕ → ℕ → ℕ → List ℕ → Outcome
-grantOn b x y way colour buffer = changing (grantInNumbers (granted b x y way colour .answer)) (granted b x y way colour .book) buffer
+-- a grant on a book; the record of a crew other than the desk has no stored form
+abbrev pub grantOn : Book → ℕ → ℕ → ℕ → ℕ → ℕ → List ℕ → Outcome
+grantOn b x y way colour crew buffer =
+    changing (grantInNumbers (granted b x y way colour crew .answer)) (granted b x y way colour crew .book) buffer
 
 -- a removal on a book; the record that it leaves pending has no stored form
 abbrev pub removeOn : Book → ℕ → List ℕ → Outcome
@@ -61,8 +62,8 @@ unfoldable pub openCall : ℕ → ℕ → List ℕ → Outcome
 openCall n w buffer = changing (openInNumbers (opened n w .answer)) (opened n w .book) buffer
 
 -- load, grant, store: the serial, the length
-unfoldable pub grantCall : List ℕ → ℕ → ℕ → ℕ → ℕ → ℕ → Outcome
-grantCall buffer size x y way colour = loadedThen buffer size (λ (b : Book). grantOn b x y way colour buffer)
+unfoldable pub grantCall : List ℕ → ℕ → ℕ → ℕ → ℕ → ℕ → ℕ → Outcome
+grantCall buffer size x y way colour crew = loadedThen buffer size (λ (b : Book). grantOn b x y way colour crew buffer)
 
 -- load, remove, store: the length
 unfoldable pub removeCall : List ℕ → ℕ → ℕ → Outcome
@@ -77,30 +78,36 @@ abbrev pub askedOf : List ℕ → (Book → InNumbers) → InNumbers
 askedOf bytes question =
     onSuccess (loadInNumbers (loaded bytes .answer)) (question (loaded bytes .book)) (loadInNumbers (loaded bytes .answer))
 
--- load, show
-unfoldable pub showCall : List ℕ → ℕ → InNumbers
-showCall bytes serial = askedOf bytes (λ (b : Book). showInNumbers (shown b serial))
+-- load, show to a crew
+unfoldable pub showCall : List ℕ → ℕ → ℕ → InNumbers
+showCall bytes serial crew = askedOf bytes (λ (b : Book). showInNumbers (shownTo crew b serial))
 
--- load, ask for the holder
-unfoldable pub holderCall : List ℕ → ℕ → ℕ → InNumbers
-holderCall bytes link colour = askedOf bytes (λ (b : Book). holderInNumbers (heldBy b link colour))
+-- load, ask for the holder, as far as a crew may know
+unfoldable pub holderCall : List ℕ → ℕ → ℕ → ℕ → InNumbers
+holderCall bytes link colour crew = askedOf bytes (λ (b : Book). holderInNumbers (heldFor crew b link colour))
 
--- the line whose four numbers stand from an entry on
+-- the line whose five numbers stand from an entry on
 abbrev pub lineAt : List ℕ → ℕ → Line
-lineAt entries i =
-    record { x = getD entries i 0; y = getD entries (i + 1) 0; way = getD entries (i + 2) 0; colour = getD entries (i + 3) 0 }
+lineAt entries i = record {
+  x = getD entries i 0;
+  y = getD entries (i + 1) 0;
+  way = getD entries (i + 2) 0;
+  colour = getD entries (i + 3) 0;
+  crew = getD entries (i + 4) 0;
+}
 
--- the lines of entries, four to a line
-abbrev pub fours : List ℕ → List Line
-fours (x ∷ y ∷ way ∷ colour ∷ rest) = record { x = x; y = y; way = way; colour = colour } ∷ fours rest
-fours (x ∷ y ∷ way ∷ []) = []
-fours (x ∷ y ∷ []) = []
-fours (x ∷ []) = []
-fours [] = []
+-- the lines of entries, five to a line
+abbrev pub fives : List ℕ → List Line
+fives (x ∷ y ∷ way ∷ colour ∷ crew ∷ rest) = record { x = x; y = y; way = way; colour = colour; crew = crew } ∷ fives rest
+fives (x ∷ y ∷ way ∷ colour ∷ []) = []
+fives (x ∷ y ∷ way ∷ []) = []
+fives (x ∷ y ∷ []) = []
+fives (x ∷ []) = []
+fives [] = []
 
--- a number of entries that is no multiple of four lists no line
+-- a number of entries that is no multiple of five lists no line
 unfoldable pub linesOfEntries : List ℕ → List Line
-linesOfEntries entries = cond (eqb (length entries % 4) 0) (fours entries) []
+linesOfEntries entries = cond (eqb (length entries % 5) 0) (fives entries) []
 
 -- load, preview: how many serials, the line and the number of its refusal or 65,535 and 0, the serials
 unfoldable pub previewCall : List ℕ → List ℕ → InNumbers

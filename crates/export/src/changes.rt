@@ -78,21 +78,22 @@ fn keep_granted(book: Book, serial: u16, buffer: &mut [u8], values: &mut [u16]) 
     }
 }
 
-// Grants a circuit in a book, and stores it.
+// Grants a circuit in a book, and stores it: 25 where the book accepts and the crew is not the desk.
 fn grant_in(
     book: Book,
     x: u16,
     y: u16,
     way: u16,
     colour: u16,
+    crew: u16,
     buffer: &mut [u8],
     values: &mut [u16],
 ) -> u16
     requires { ⌜ Valid book ⌝ }
-    ensures { λ r. ⌜ Changed (grantOn book x y way colour (now (buffer .entry))) (now (buffer .exit)) (now (values .entry))
+    ensures { λ r. ⌜ Changed (grantOn book x y way colour crew (now (buffer .entry))) (now (buffer .exit)) (now (values .entry))
         (now (values .exit)) r ⌝ }
 {
-    let granted = grant(book, x, y, way, colour);
+    let granted = grant(book, x, y, way, colour, crew);
     let answer = granted.answer;
     match answer {
         GrantAnswer::Granted(serial) => {
@@ -103,7 +104,8 @@ fn grant_in(
     }
 }
 
-// Grants a circuit in the book in the first bytes of the buffer. Values: its serial, the length of the stored form.
+// Grants a circuit in the book in the first bytes of the buffer. Values: its serial, the length of the stored form. While that form has no
+// room for states and crews, a grant of a crew other than the desk that the book accepts is refused by 25, and no serial is given.
 #[no_mangle]
 pub extern "C" fn tarziloen_book_grant(
     buffer: &mut [u8],
@@ -112,9 +114,10 @@ pub extern "C" fn tarziloen_book_grant(
     y: u16,
     way: u16,
     colour: u16,
+    crew: u16,
     values: &mut [u16],
 ) -> u16
-    ensures { λ r. ⌜ Changed (grantCall (now (buffer .entry)) length x y way colour) (now (buffer .exit)) (now (values .entry))
+    ensures { λ r. ⌜ Changed (grantCall (now (buffer .entry)) length x y way colour crew) (now (buffer .exit)) (now (values .entry))
         (now (values .exit)) r ⌝ }
 {
     let loaded = load_front(buffer, length);
@@ -122,7 +125,7 @@ pub extern "C" fn tarziloen_book_grant(
     match answer {
         LoadAnswer::Loaded => {
             let book = loaded.book;
-            grant_in(book, x, y, way, colour, buffer, values)
+            grant_in(book, x, y, way, colour, crew, buffer, values)
         }
         LoadAnswer::Refused(refusal) => refused(refusal, values),
     }
@@ -145,7 +148,7 @@ fn remove_in(book: Book, serial: u16, buffer: &mut [u8], values: &mut [u16]) -> 
 }
 
 // Removes an order from the book in the first bytes of the buffer. Value: the length of the stored form. While that form has no room for
-// pending records, a removal that the book accepts is refused by 25, and the order stays live.
+// states and crews, a removal that the book accepts is refused by 25, and the order stays live.
 #[no_mangle]
 pub extern "C" fn tarziloen_book_remove(
     buffer: &mut [u8],
@@ -184,7 +187,7 @@ fn confirm_in(book: Book, serial: u16, buffer: &mut [u8], values: &mut [u16]) ->
 }
 
 // Confirms the pull of a removed order in the book in the first bytes of the buffer. Value: the length of the stored form. While that form
-// has no room for pending records, the book has none, and accepts no confirmation.
+// has no room for states and crews, the book has no pending record, and accepts no confirmation.
 #[no_mangle]
 pub extern "C" fn tarziloen_book_confirm(
     buffer: &mut [u8],

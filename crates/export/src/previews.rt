@@ -22,9 +22,9 @@ ghost use Rattle.book.specs.Internal.Bundles.{Bundled};
 ghost use Rattle.export.specs.Outcomes.{putFrom, Answered};
 ghost use Rattle.export.specs.BookCalls.{lineAt, linesOfEntries, previewCall};
 
-// The line whose four numbers stand from an entry on.
+// The line whose five numbers stand from an entry on.
 fn line_at(entries: &[u16], at: usize) -> Line
-    requires { ⌜ at + 4 ≤ length (now entries) ⌝ }
+    requires { ⌜ at + 5 ≤ length (now entries) ⌝ }
     ensures { λ r. ⌜ r ≡ lineAt (now (entries .entry)) at ⌝ }
 {
     Line {
@@ -32,6 +32,7 @@ fn line_at(entries: &[u16], at: usize) -> Line
         y: entries[at + 1],
         way: entries[at + 2],
         colour: entries[at + 3],
+        crew: entries[at + 4],
     }
 }
 
@@ -40,17 +41,17 @@ fn bundle_of(entries: &[u16]) -> Bundle
     ensures { λ r. ⌜ Bundled r (linesOfEntries (now (entries .entry))) ⌝ }
 {
     let mut bundle = Bundle::blank();
-    if entries.len() % 4 != 0 {
+    if entries.len() % 5 != 0 {
         return bundle;
     }
-    let count = entries.len() / 4;
+    let count = entries.len() / 5;
     if Bundle::LINES < count {
         bundle.count = count;
         return bundle;
     }
     let mut i: usize = 0;
     while i < count {
-        let line = line_at(entries, 4 * i);
+        let line = line_at(entries, 5 * i);
         bundle = with_line(bundle, line);
         i += 1;
     }
@@ -101,8 +102,8 @@ fn preview_in(book: Book, entries: &[u16], values: &mut [u16]) -> u16
     }
 }
 
-// Tries lines, of four entries each, on the book in the bytes. Values: how many serials there are; the line that would be turned down and
-// the number of its refusal, or 65,535 and 0; the serials.
+// Tries lines, of five entries each, on the book in the bytes. Values: how many serials there are; the line that would be turned down and
+// the number of its refusal, or 65,535 and 0; the serials. Nothing is stored, so that lines of any crew are tried.
 #[no_mangle]
 pub extern "C" fn tarziloen_book_preview(bytes: &[u8], lines: &[u16], values: &mut [u16]) -> u16
     ensures { λ r. ⌜ Answered (previewCall (now (bytes .entry)) (now (lines .entry))) (now (values .entry)) (now (values .exit)) r ⌝ }

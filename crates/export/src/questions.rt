@@ -11,9 +11,10 @@ use ring::fates::way_number;
 use stored::loads::LoadAnswer;
 use stored::loads::load;
 ghost use mathlib.Core.Path.{_≡_};
+ghost use mathlib.Core.List.{[], _∷_};
 ghost use Rattle.book.specs.declared.orders.ShowAnswer.the-variants.{Shown};
-ghost use Rattle.book.specs.Orders.{shown, showInNumbers};
-ghost use Rattle.book.specs.Holders.{heldBy, holderInNumbers};
+ghost use Rattle.book.specs.Orders.{shownTo, showInNumbers};
+ghost use Rattle.book.specs.Holders.{heldFor, holderInNumbers};
 ghost use Rattle.export.specs.Outcomes.{putFrom, Answered};
 ghost use Rattle.export.specs.BookCalls.{showCall, holderCall};
 
@@ -28,11 +29,11 @@ fn put_circuit(values: &mut [u16], circuit: Circuit)
     put(values, 3, circuit.colour);
 }
 
-// Shows an order of a book.
-fn show_in(book: Book, serial: u16, values: &mut [u16]) -> u16
-    ensures { λ r. ⌜ Answered (showInNumbers (shown book serial)) (now (values .entry)) (now (values .exit)) r ⌝ }
+// Shows an order of a book to a crew.
+fn show_in(book: Book, serial: u16, crew: u16, values: &mut [u16]) -> u16
+    ensures { λ r. ⌜ Answered (showInNumbers (shownTo crew book serial)) (now (values .entry)) (now (values .exit)) r ⌝ }
 {
-    let answer = show(book, serial);
+    let answer = show(book, serial, crew);
     match answer {
         ShowAnswer::Shown(circuit) => {
             put_circuit(values, circuit);
@@ -42,56 +43,75 @@ fn show_in(book: Book, serial: u16, values: &mut [u16]) -> u16
     }
 }
 
-// Shows an order of the book in the bytes. Values: a, b, way (0 plain, 1 seam), colour.
+// Shows an order of the book in the bytes to a crew. Values: a, b, way (0 plain, 1 seam), colour.
 #[no_mangle]
-pub extern "C" fn tarziloen_book_show(bytes: &[u8], serial: u16, values: &mut [u16]) -> u16
-    ensures { λ r. ⌜ Answered (showCall (now (bytes .entry)) serial) (now (values .entry)) (now (values .exit)) r ⌝ }
+pub extern "C" fn tarziloen_book_show(
+    bytes: &[u8],
+    serial: u16,
+    crew: u16,
+    values: &mut [u16],
+) -> u16
+    ensures { λ r. ⌜ Answered (showCall (now (bytes .entry)) serial crew) (now (values .entry)) (now (values .exit)) r ⌝ }
 {
     let loaded = load(bytes);
     let answer = loaded.answer;
     match answer {
         LoadAnswer::Loaded => {
             let book = loaded.book;
-            show_in(book, serial, values)
+            show_in(book, serial, crew, values)
         }
         LoadAnswer::Refused(refusal) => refused(refusal, values),
     }
 }
 
-// The holder of a colour on a link, in a book.
-fn holder_in(book: Book, link: u16, colour: u16, values: &mut [u16]) -> u16
-    ensures { λ r. ⌜ Answered (holderInNumbers (heldBy book link colour)) (now (values .entry)) (now (values .exit)) r ⌝ }
+// The state of a colour on a link, and the serial of its holder or 0.
+fn put_holder(values: &mut [u16], state: u16, serial: u16)
+    ensures { λ _. ⌜ now (values .exit) ≡ putFrom 0 (state ∷ serial ∷ []) (now (values .entry)) ⌝ }
 {
-    let answer = holder(book, link, colour);
+    put(values, 0, state);
+    put(values, 1, serial);
+}
+
+// The holder of a colour on a link, in a book, as far as a crew may know.
+fn holder_in(book: Book, link: u16, colour: u16, crew: u16, values: &mut [u16]) -> u16
+    ensures { λ r. ⌜ Answered (holderInNumbers (heldFor crew book link colour)) (now (values .entry)) (now (values .exit)) r ⌝ }
+{
+    let answer = holder(book, link, colour, crew);
     match answer {
         HolderAnswer::Free => {
-            put(values, 0, 0);
+            put_holder(values, 0, 0);
             0
         }
-        HolderAnswer::Held(serial) => {
-            put(values, 0, serial);
+        HolderAnswer::Held => {
+            put_holder(values, 1, 0);
+            0
+        }
+        HolderAnswer::HeldBy(serial) => {
+            put_holder(values, 2, serial);
             0
         }
         HolderAnswer::Refused(refusal) => refused(refusal, values),
     }
 }
 
-// The holder of a colour on a link, in the book in the bytes. Value: its serial, 0 for free.
+// The holder of a colour on a link, in the book in the bytes, as far as a crew may know. Values: 0 free, 1 held, 2 held by an order that it
+// may read; the serial of that order, or 0.
 #[no_mangle]
 pub extern "C" fn tarziloen_book_holder(
     bytes: &[u8],
     link: u16,
     colour: u16,
+    crew: u16,
     values: &mut [u16],
 ) -> u16
-    ensures { λ r. ⌜ Answered (holderCall (now (bytes .entry)) link colour) (now (values .entry)) (now (values .exit)) r ⌝ }
+    ensures { λ r. ⌜ Answered (holderCall (now (bytes .entry)) link colour crew) (now (values .entry)) (now (values .exit)) r ⌝ }
 {
     let loaded = load(bytes);
     let answer = loaded.answer;
     match answer {
         LoadAnswer::Loaded => {
             let book = loaded.book;
-            holder_in(book, link, colour, values)
+            holder_in(book, link, colour, crew, values)
         }
         LoadAnswer::Refused(refusal) => refused(refusal, values),
     }

@@ -7,7 +7,7 @@ use Rattle.ring.specs.declared.refusals.Refusal.the-variants.{TableShort
 use Rattle.ring.specs.declared.refusals.Refusal.the-variants.{WayNumber, ColourNumber, ColourHeld, BookFull, SerialsUsedUp}
 use Rattle.ring.specs.declared.refusals.Refusal.the-variants.{SerialNeverGiven, SerialRemoved, LinkNumber, BufferShort, StoredLength}
 use Rattle.ring.specs.declared.refusals.Refusal.the-variants.{BlockCheck, StoredForm, TextForm, LineCount, SerialLive}
-use Rattle.ring.specs.declared.refusals.Refusal.the-variants.{SerialConfirmed, PendingRecord}
+use Rattle.ring.specs.declared.refusals.Refusal.the-variants.{SerialConfirmed, MarkedRecord, CrewNumber}
 use Rattle.ring.specs.declared.refusals.Verdict.{Verdict}
 use Rattle.ring.specs.declared.refusals.Verdict.the-variants.{Allowed, Refused}
 use Rattle.ring.specs.declared.refusals.Carried.{Carried}
@@ -41,7 +41,8 @@ numberOf TextForm = 21
 numberOf LineCount = 22
 numberOf SerialLive = 23
 numberOf SerialConfirmed = 24
-numberOf PendingRecord = 25
+numberOf MarkedRecord = 25
+numberOf CrewNumber = 26
 
 -- "In plan and check, 4, 5 and 7 carry the request number, 8 both, the others none."
 abbrev pub carriedBy : Refusal → Carried
@@ -71,7 +72,8 @@ carriedBy TextForm = None
 carriedBy LineCount = None
 carriedBy SerialLive = None
 carriedBy SerialConfirmed = None
-carriedBy PendingRecord = None
+carriedBy MarkedRecord = None
+carriedBy CrewNumber = None
 
 -- a ground, if its test holds
 abbrev pub refuseIf : Bool → Refusal → Verdict

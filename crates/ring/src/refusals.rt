@@ -29,7 +29,8 @@ pub enum Refusal {
     LineCount,
     SerialLive,
     SerialConfirmed,
-    PendingRecord,
+    MarkedRecord,
+    CrewNumber,
 }
 
 // Whether a ground is there: the first one in the order of the rules, or none.
@@ -96,7 +97,8 @@ pub fn number(refusal: Refusal) -> u16
         Refusal::LineCount => 22,
         Refusal::SerialLive => 23,
         Refusal::SerialConfirmed => 24,
-        Refusal::PendingRecord => 25,
+        Refusal::MarkedRecord => 25,
+        Refusal::CrewNumber => 26,
     }
 }
 
@@ -131,6 +133,7 @@ pub fn carried_by(refusal: Refusal) -> Carried
         Refusal::LineCount => Carried::None,
         Refusal::SerialLive => Carried::None,
         Refusal::SerialConfirmed => Carried::None,
-        Refusal::PendingRecord => Carried::None,
+        Refusal::MarkedRecord => Carried::None,
+        Refusal::CrewNumber => Carried::None,
     }
 }

@@ -16,7 +16,7 @@ use Rattle.ring.specs.Fates.{fateNumber, fateOf}
 use Rattle.ring.proofs.FateLaws.{fate-of-number}
 use Rattle.book.specs.declared.circuits.RecordState.the-variants.{Live}
 use Rattle.book.specs.declared.circuits.Circuit.{Circuit}
-use Rattle.book.specs.Circuits.{vacant, circuit}
+use Rattle.book.specs.Circuits.{vacant, desk, circuit}
 use Rattle.book.proofs.States.{live-granted}
 use Rattle.stored.specs.Blocks.{word, wordAt, checkOf, numbered, blockOf}
 use Rattle.stored.specs.Forms.{recordBytes, recordsBytes}
@@ -51,9 +51,10 @@ module _ (p u q : List ℕ) (n : ℕ) (e : length p ≡ n) where
   pub word-read : (x : ℕ) → x < 65536 → wordAt (p ++ (u ++ (word x ++ q))) (n + length u) ≡ x
   word-read x h = word-cells (x % 256) (x / 256 % 256) ∙ word-back x h
 
--- a record that is live, wherever it stands
+-- a record that is live and the desk's, wherever it stands
 pub record Fields (c : Circuit) : Type 0 where
   pub live : c .state ≡ Live
+  pub crew : c .crew ≡ desk
   pub serial : c .serial < 65536
   pub first : c .a < 65536
   pub second : c .b < 65536
@@ -79,6 +80,8 @@ circuit-read p q n c e f =
     (fateOf (wordAt (p ++ (recordBytes c ++ q)) (n + 6)))) a
     ∙ ap (λ (x : ℕ). circuitFrom (c .serial) (c .a) x (fateOf (wordAt (p ++ (recordBytes c ++ q)) (n + 6)))) b
     ∙ ap (λ (x : Fate). circuitFrom (c .serial) (c .a) (c .b) x) (ap fateOf k ∙ fate-of-number (Served (c .way) (c .colour)))
+    ∙ ap (λ (x : ℕ). record { serial = c .serial; a = c .a; b = c .b; way = c .way; colour = c .colour; crew = x; state = Live })
+    (sym (f .crew))
     ∙ live-granted c (f .live)
 
 module _ (k : ℕ) (l : List ℕ) where

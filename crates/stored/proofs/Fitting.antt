@@ -14,8 +14,9 @@ use Rattle.ring.proofs.WayLaws.{not-both, found-some, none-some}
 use Rattle.book.specs.declared.circuits.Circuit.{Circuit}
 use Rattle.book.specs.declared.books.Book.{Book}
 use Rattle.book.specs.Circuits.{vacant, circuit, endsOf, holds}
-use Rattle.book.specs.Books.{recordsOf, bookOf, Valid, ValidCircuits}
+use Rattle.book.specs.Books.{recordsOf, hasMarked, bookOf, Valid, ValidCircuits}
 use Rattle.book.specs.Grants.{heldIn, heldOnWay}
+use Rattle.book.proofs.Marks.{none-marked}
 use Rattle.book.proofs.ConflictLaws.{true-and}
 use Rattle.book.proofs.CircuitLists.{Place, some-place, place-some}
 use Rattle.stored.specs.Validity.{ringFits, circuitFits, serialFits, mayFollow, lastSerial, circuitsFit, bookFits}
@@ -140,20 +141,22 @@ module _ (b : Book) where
         (true-and (uses (at j .way) (endsOf (at j)) link) (heldIn (take j cs) link (at j .colour)) (q .1) held))
         (few j k .free))
 
-    pub valid-circuits : length cs ≤ 512 → ValidCircuits (b .n) (b .w) (b .grants) cs
-    valid-circuits room =
+    pub valid-circuits : hasMarked b ≡ false → length cs ≤ 512 → ValidCircuits (b .n) (b .w) (b .grants) cs
+    valid-circuits unmarked room =
         record {
           room = room;
           given = λ i h. let f = few i h .above in (omega arith, few i h .given);
           rising = rises;
           ends = λ i h. (few i h .ordered, few i h .nodes);
           colours = λ i h. few i h .colour;
+          crews = λ i h. let desks = none-marked b unmarked i h .1 in omega arith;
           apart = apart;
         }
 
-  pub fits-valid : bookFits b ≡ true → b ≡ bookOf (b .n) (b .w) (b .grants) cs → length cs ≤ 512 → b .grants ≤ 65535 → Valid b
+  pub fits-valid : bookFits b ≡ true → hasMarked b ≡ false → b ≡ bookOf (b .n) (b .w) (b .grants) cs → length cs ≤ 512
+      → b .grants ≤ 65535 → Valid b
   unfolding bookFits ringFits
-  fits-valid e form room few =
+  fits-valid e unmarked form room few =
       let s = and-true _ _ e in
       let t = and-true _ _ (s .0) in
       let n = and-true _ _ (t .0) in
@@ -163,5 +166,5 @@ module _ (b : Book) where
         colours = (leb-true _ _ (w .0), leb-true _ _ (w .1));
         few = few;
         form = form;
-        circuits = valid-circuits (λ i h. following i (each-follows (length cs) (s .1) i h)) room;
+        circuits = valid-circuits (λ i h. following i (each-follows (length cs) (s .1) i h)) unmarked room;
       }

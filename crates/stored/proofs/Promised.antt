@@ -10,11 +10,11 @@ use lib.ListN.{length}
 use Rattle.ring.proofs.FateLaws.{number-within}
 use Rattle.book.specs.declared.books.Book.{Book}
 use Rattle.book.specs.Circuits.{circuit}
-use Rattle.book.specs.Books.{recordsOf, hasPending, bookOf, Valid}
+use Rattle.book.specs.Books.{recordsOf, hasMarked, bookOf, Valid}
 use Rattle.ring.proofs.Cases.{and-true}
 use Rattle.book.proofs.ConflictLaws.{true-and}
 use Rattle.book.proofs.Forms.{records-form}
-use Rattle.book.proofs.Pendings.{none-pending}
+use Rattle.book.proofs.Marks.{none-marked}
 use Rattle.stored.specs.declared.loads.LoadAnswer.the-variants as answer
 use Rattle.stored.specs.declared.loads.Loaded.{Loaded}
 use Rattle.stored.specs.Blocks.{word, wordAt}
@@ -26,7 +26,7 @@ use Rattle.ring.specs.Buffers.{sameBytes}
 use Rattle.stored.specs.Loading.{lengthWrong, formRight}
 use Rattle.stored.specs.Promises.{ReadsBack, IsForm, LoadsOnlyForms}
 use Rattle.stored.proofs.StoreLaws.{form-length}
-use Rattle.stored.proofs.ReadLaws.{circuits-few, read-live}
+use Rattle.stored.proofs.ReadLaws.{circuits-few, read-unmarked}
 use Rattle.ring.proofs.BufferLaws.{same-refl, same-equal}
 use Rattle.stored.proofs.LoadLaws.{load-good, load-told}
 use Rattle.stored.proofs.BlockReading.{Fields}
@@ -50,7 +50,7 @@ right-blocks b h =
     let e : length (storedForm b) / 512 ≡ blockCount (length (recordsOf b)) = omega (arith, form-length b) in
     ap (blocksRight (storedForm b)) e ∙ form-right b (omega arith) (blockCount (length (recordsOf b))) (omega arith)
 
-module _ (b : Book) (v : Valid b) (all : hasPending b ≡ false) where
+module _ (b : Book) (v : Valid b) (all : hasMarked b ≡ false) where
   fields : (i : ℕ) → i < length (recordsOf b) → Fields (circuit (recordsOf b) i)
   fields i h =
       let g = v .circuits .given i h in
@@ -60,7 +60,8 @@ module _ (b : Book) (v : Valid b) (all : hasPending b ≡ false) where
       let w = v .colours .1 in
       let few = v .few in
       let f = number-within (circuit (recordsOf b) i .way) (circuit (recordsOf b) i .colour) (b .w) k in
-      record { live = none-pending b all i h; serial = omega arith; first = omega arith; second = omega arith; fate = omega arith }
+      let unmarked = none-marked b all i h in
+      record { live = unmarked .0; crew = unmarked .1; serial = omega arith; first = omega arith; second = omega arith; fate = omega arith }
 
   pub back : bookIn (storedForm b) ≡ b
   back =
@@ -114,7 +115,11 @@ module _ (bytes : List ℕ) where
   form-told e =
       let s = and-true (bookFits (bookIn bytes)) (sameBytes bytes (storedForm (bookIn bytes))) e in
       let f : bytes ≡ storedForm (bookIn bytes) = same-equal bytes (storedForm (bookIn bytes)) (s .1) in
-      record { valid = fits-valid (bookIn bytes) (s .0) form-is room-is (few-are f); live = read-live bytes; form = f }
+      record {
+        valid = fits-valid (bookIn bytes) (s .0) (read-unmarked bytes) form-is room-is (few-are f);
+        unmarked = read-unmarked bytes;
+        form = f;
+      }
 
 pub loads-only-forms : LoadsOnlyForms
 loads-only-forms bytes e =

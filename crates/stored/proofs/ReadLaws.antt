@@ -1,7 +1,7 @@
 -- Reading circuits, block by block, into a book.
 use Prim.Native.Nat.{ℕ, zero, suc, _+_, _-_, _*_, _/_, _≤_, _<_, min}
 use mathlib.Core.Path.{_≡_, refl, sym, _∙_, ap}
-use mathlib.Core.Bool.{Bool, true, false, not, _&&_, _||_}
+use mathlib.Core.Bool.{Bool, false, _&&_, _||_}
 use mathlib.Core.List.{List, [], _∷_, _++_, append-nil, append-assoc}
 use native.Mathlib.Omega.{arith}
 use native.Mathlib.Numerals.{add-one}
@@ -13,10 +13,10 @@ use Rattle.ring.specs.declared.fates.Fate.the-variants.{Blocked, Served}
 use Rattle.ring.specs.Fates.{fateOf}
 use Rattle.book.specs.declared.circuits.Circuit.{Circuit}
 use Rattle.book.specs.declared.books.Book.{Book}
-use Rattle.book.specs.Circuits.{vacant, isLive, someCircuit}
-use Rattle.book.specs.Books.{recordsOf, hasPending, bookOf}
+use Rattle.book.specs.Circuits.{vacant, isMarked, someCircuit}
+use Rattle.book.specs.Books.{recordsOf, hasMarked, bookOf}
 use Rattle.book.proofs.Forms.{records-form}
-use Rattle.book.proofs.Pendings.{none-append}
+use Rattle.book.proofs.Marks.{none-append}
 use Rattle.stored.specs.Blocks.{wordAt, checkOf}
 use Rattle.stored.specs.Reading.{partOf, blockRight, blocksRight, circuitFrom, circuitAt, recordsIn, circuitsIn, bookIn}
 use Rattle.stored.specs.Internal.Handing.{extended}
@@ -165,26 +165,26 @@ blank-steps r x y z n w g h e f k =
     ∙ ap (λ (j : ℕ). bookOf n j z []) f
     ∙ ap (λ (j : ℕ). bookOf n w j []) k
 
--- every record that is read is live
-circuit-live : (serial a b : ℕ) (f : Fate) → isLive (circuitFrom serial a b f) ≡ true
-circuit-live serial a b Blocked = refl
-circuit-live serial a b (Served way colour) = refl
+-- every record that is read is live and the desk's
+circuit-unmarked : (serial a b : ℕ) (f : Fate) → isMarked (circuitFrom serial a b f) ≡ false
+circuit-unmarked serial a b Blocked = refl
+circuit-unmarked serial a b (Served way colour) = refl
 
-records-live : (block : List ℕ) (i : ℕ) → someCircuit (recordsIn block i) (λ c. not (isLive c)) ≡ false
+records-unmarked : (block : List ℕ) (i : ℕ) → someCircuit (recordsIn block i) isMarked ≡ false
 unfolding someCircuit circuitAt
-records-live block zero = refl
-records-live block (suc i) = none-append (recordsIn block i) (circuitAt block (8 * i) ∷ []) (λ c. not (isLive c)) (records-live block i)
-    (ap (λ (t : Bool). not t || false) (circuit-live _ _ _ (fateOf (wordAt block (8 * i + 6)))))
+records-unmarked block zero = refl
+records-unmarked block (suc i) = none-append (recordsIn block i) (circuitAt block (8 * i) ∷ []) isMarked (records-unmarked block i)
+    (ap (λ (t : Bool). t || false) (circuit-unmarked _ _ _ (fateOf (wordAt block (8 * i + 6)))))
 
-circuits-live : (bytes : List ℕ) (live k : ℕ) → someCircuit (circuitsIn bytes live k) (λ c. not (isLive c)) ≡ false
+circuits-unmarked : (bytes : List ℕ) (live k : ℕ) → someCircuit (circuitsIn bytes live k) isMarked ≡ false
 unfolding someCircuit
-circuits-live bytes live zero = refl
-circuits-live bytes live (suc k) = none-append (circuitsIn bytes live k) _ (λ c. not (isLive c)) (circuits-live bytes live k)
-    (records-live (partOf bytes (suc k)) (min 63 (live - length (circuitsIn bytes live k))))
+circuits-unmarked bytes live zero = refl
+circuits-unmarked bytes live (suc k) = none-append (circuitsIn bytes live k) _ isMarked (circuits-unmarked bytes live k)
+    (records-unmarked (partOf bytes (suc k)) (min 63 (live - length (circuitsIn bytes live k))))
 
-pub read-live : (bytes : List ℕ) → hasPending (bookIn bytes) ≡ false
-unfolding hasPending bookIn
-read-live bytes =
-    ap (λ (cs : List Circuit). someCircuit cs (λ c. not (isLive c)))
+pub read-unmarked : (bytes : List ℕ) → hasMarked (bookIn bytes) ≡ false
+unfolding hasMarked bookIn
+read-unmarked bytes =
+    ap (λ (cs : List Circuit). someCircuit cs isMarked)
     (records-form 0 0 0 (circuitsIn bytes (min 512 (wordAt (partOf bytes 0) 6)) (length bytes / 512 - 1)))
-    ∙ circuits-live bytes (min 512 (wordAt (partOf bytes 0) 6)) (length bytes / 512 - 1)
+    ∙ circuits-unmarked bytes (min 512 (wordAt (partOf bytes 0) 6)) (length bytes / 512 - 1)

@@ -9,9 +9,9 @@ use borrow.Author.Tests.{lt-ltb, le-ltb}
 use borrow.Rule.Slice.PartMut.{putMid}
 use lib.ListN.{length, take, drop, length-append, length-take, length-drop}
 use lib.Seq.{take-at, drop-at, drop-append-add, drop-drop}
-use Rattle.ring.specs.declared.refusals.Refusal.the-variants.{BufferShort, PendingRecord}
+use Rattle.ring.specs.declared.refusals.Refusal.the-variants.{BufferShort, MarkedRecord}
 use Rattle.book.specs.declared.books.Book.{Book}
-use Rattle.book.specs.Books.{recordsOf, hasPending}
+use Rattle.book.specs.Books.{recordsOf, hasMarked}
 use Rattle.stored.specs.declared.stores.StoreAnswer.the-variants.{Stored, Refused}
 use Rattle.stored.specs.Blocks.{word, blockOf}
 use Rattle.stored.specs.Forms.{circuitsOf, contents, blocks, blockCount, storedForm}
@@ -98,19 +98,19 @@ module _ (b : Book) where
   store-copied old h = ap (λ (t : Bool). cond t old (storedForm b ++ drop (lengthOf b) old)) (le-ltb _ _ h)
 
   -- 25, and what is stored without it
-  pub store-pending : (buffer : List ℕ) → hasPending b ≡ true
-      → (Refused PendingRecord ≡ storeAnswer b buffer) × (buffer ≡ afterStore b buffer)
+  pub store-marked : (buffer : List ℕ) → hasMarked b ≡ true
+      → (Refused MarkedRecord ≡ storeAnswer b buffer) × (buffer ≡ afterStore b buffer)
   unfolding storeAnswer afterStore
-  store-pending buffer e = (
-    sym (ap (λ (t : Bool). cond t (Refused PendingRecord) (formAnswer b buffer)) e),
+  store-marked buffer e = (
+    sym (ap (λ (t : Bool). cond t (Refused MarkedRecord) (formAnswer b buffer)) e),
     sym (ap (λ (t : Bool). cond t buffer (afterForm b buffer)) e),
   )
 
-  pub store-live : (buffer : List ℕ) → hasPending b ≡ false
+  pub store-unmarked : (buffer : List ℕ) → hasMarked b ≡ false
       → (formAnswer b buffer ≡ storeAnswer b buffer) × (afterForm b buffer ≡ afterStore b buffer)
   unfolding storeAnswer afterStore
-  store-live buffer e = (
-    sym (ap (λ (t : Bool). cond t (Refused PendingRecord) (formAnswer b buffer)) e),
+  store-unmarked buffer e = (
+    sym (ap (λ (t : Bool). cond t (Refused MarkedRecord) (formAnswer b buffer)) e),
     sym (ap (λ (t : Bool). cond t buffer (afterForm b buffer)) e),
   )
 

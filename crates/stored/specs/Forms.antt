@@ -1,4 +1,4 @@
--- The stored form of a book, which has no pending record: store refuses one that has.
+-- The stored form of a book, all of whose records are live and the desk's: store refuses any other.
 use Prim.Native.Nat.{ℕ, zero, suc, _+_, _*_, _/_}
 use mathlib.Core.List.{List, [], _∷_, _++_}
 use lib.ListN.{length, take, drop}

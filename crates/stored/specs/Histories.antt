@@ -5,7 +5,7 @@ use mathlib.Core.Bool.{false}
 use mathlib.Core.List.{List}
 use Rattle.ring.specs.declared.refusals.Verdict.the-variants.{Allowed}
 use Rattle.ring.specs.Admission.{ringVerdict}
-use Rattle.book.specs.Books.{hasPending, opened}
+use Rattle.book.specs.Books.{hasMarked, opened}
 use Rattle.book.specs.History.{Call, run, history, AfterHistory}
 use Rattle.stored.specs.declared.loads.LoadAnswer.the-variants as answer
 use Rattle.stored.specs.declared.loads.Loaded.{Loaded}
@@ -19,7 +19,7 @@ pub record StoredAfter (n w : ℕ) (calls : List Call) (bytes : List ℕ) : Type
   pub loads : loaded bytes ≡ record { answer = answer.Loaded; book = run (opened n w .book) calls }
   pub after : AfterHistory n w (history (opened n w .book) calls) (run (opened n w .book) calls)
 
--- it is so of every list of calls from an opening that leaves no pending record
+-- it is so of every list of calls from an opening that leaves no record that is pending or of another crew than the desk
 abbrev pub StoredHistories : Type 0
 StoredHistories = (n w : ℕ) → ringVerdict n w ≡ Allowed → (calls : List Call)
-    → hasPending (run (opened n w .book) calls) ≡ false → StoredAfter n w calls (storedForm (run (opened n w .book) calls))
+    → hasMarked (run (opened n w .book) calls) ≡ false → StoredAfter n w calls (storedForm (run (opened n w .book) calls))

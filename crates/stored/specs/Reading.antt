@@ -27,9 +27,9 @@ abbrev pub blocksRight : List ℕ → ℕ → Bool
 blocksRight bytes zero = true
 blocksRight bytes (suc k) = blocksRight bytes k && blockRight k (partOf bytes k)
 
--- the circuit of a record, live; fate number 0 tells none, and gets the vacant record
+-- the circuit of a record, live; it "has crew 0"; fate number 0 tells none, and gets the vacant record
 abbrev pub circuitFrom : ℕ → ℕ → ℕ → Fate → Circuit
-circuitFrom serial a b (Served way colour) = record { serial = serial; a = a; b = b; way = way; colour = colour; state = Live }
+circuitFrom serial a b (Served way colour) = record { serial = serial; a = a; b = b; way = way; colour = colour; crew = 0; state = Live }
 circuitFrom serial a b Blocked = vacant
 
 -- the record at a position: "serial, a, b, fate number"
@@ -50,7 +50,7 @@ abbrev pub circuitsIn : List ℕ → ℕ → ℕ → List Circuit
 circuitsIn bytes live zero = []
 circuitsIn bytes live (suc k) = readOn live (circuitsIn bytes live k) (partOf bytes (suc k))
 
--- the book that the bytes tell, all its records live; of more than 512 the first 512
+-- the book that the bytes tell, all its records live and the desk's; of more than 512 the first 512
 unfoldable pub bookIn : List ℕ → Book
 bookIn bytes = bookOf (wordAt (partOf bytes 0) 0) (wordAt (partOf bytes 0) 2) (wordAt (partOf bytes 0) 4)
     (circuitsIn bytes (min 512 (wordAt (partOf bytes 0) 6)) (length bytes / 512 - 1))

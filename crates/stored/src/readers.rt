@@ -52,6 +52,7 @@ fn circuit_at(block: &[u8], at: usize) -> Circuit
             way: way,
             state: RecordState::Live,
             colour: colour,
+            crew: 0,
         },
         Fate::Blocked => Circuit::vacant(),
     }

@@ -5,7 +5,7 @@ use super::lengths::stored_length;
 use super::words::put_word;
 use book::Book;
 use book::Circuit;
-use book::books::has_pending;
+use book::books::has_marked;
 use book::books::record_count;
 use ring::Refusal;
 use ring::Way;
@@ -85,7 +85,7 @@ fn write_records(block: &mut [u8], book: Book, number: usize)
     seal(block, narrow(number));
 }
 
-// Writes the stored form, which has no room for the states of records, to the front of a buffer: its length, or refusal 17 with nothing
+// Writes the stored form, which has no room for states and crews, to the front of a buffer: its length, or refusal 17 with nothing
 // written.
 pub fn write_form(book: Book, buffer: &mut [u8]) -> StoreAnswer
     ensures { λ r. ⌜ (r ≡ formAnswer book (now (buffer .entry))) × (now (buffer .exit) ≡ afterForm book (now (buffer .entry))) ⌝ }
@@ -112,12 +112,12 @@ pub fn write_form(book: Book, buffer: &mut [u8]) -> StoreAnswer
     StoreAnswer::Stored(narrow(length))
 }
 
-// Writes the stored form of a book without pending records: its length, or refusal 25 or 17 with nothing written.
+// Writes the stored form of a book whose records are live and the desk's: its length, or refusal 25 or 17 with nothing written.
 pub fn store(book: Book, buffer: &mut [u8]) -> StoreAnswer
     ensures { λ r. ⌜ (r ≡ storeAnswer book (now (buffer .entry))) × (now (buffer .exit) ≡ afterStore book (now (buffer .entry))) ⌝ }
 {
-    if has_pending(book) {
-        return StoreAnswer::Refused(Refusal::PendingRecord);
+    if has_marked(book) {
+        return StoreAnswer::Refused(Refusal::MarkedRecord);
     }
     write_form(book, buffer)
 }

@@ -6,7 +6,7 @@ use Rattle.ring.specs.declared.refusals.Refusal.the-variants.{NodeCount, Colour
 use Rattle.ring.specs.declared.refusals.Refusal.the-variants.{TableShort, FateNumber, Conflict, CircuitEnd, CircuitEndsEqual, WayNumber}
 use Rattle.ring.specs.declared.refusals.Refusal.the-variants.{ColourNumber, ColourHeld, BookFull, SerialsUsedUp, SerialNeverGiven}
 use Rattle.ring.specs.declared.refusals.Refusal.the-variants.{SerialRemoved, LinkNumber, BufferShort, StoredLength, BlockCheck, StoredForm}
-use Rattle.ring.specs.declared.refusals.Refusal.the-variants.{TextForm, LineCount, SerialLive, SerialConfirmed, PendingRecord}
+use Rattle.ring.specs.declared.refusals.Refusal.the-variants.{TextForm, LineCount, SerialLive, SerialConfirmed, MarkedRecord, CrewNumber}
 use Rattle.texts.specs.Bytes.{bytes}
 
 -- the ground's words, to the end of the line
@@ -39,4 +39,5 @@ groundOf TextForm = bytes "more than 8,192 bytes, or a text not of the stated fo
 groundOf LineCount = bytes "no line or more than 16\n"
 groundOf SerialLive = bytes "the circuit is live\n"
 groundOf SerialConfirmed = bytes "already confirmed\n"
-groundOf PendingRecord = bytes "a book with a pending record cannot be stored\n"
+groundOf MarkedRecord = bytes "a record that is pending or whose crew is not 0 cannot be stored\n"
+groundOf CrewNumber = bytes "crew above 999\n"

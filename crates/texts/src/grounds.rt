@@ -9,7 +9,7 @@ ghost use Rattle.texts.specs.Grounds.{groundOf};
 ghost use Rattle.texts.specs.Internal.Writing.{Wrote};
 
 // The lines of the grounds, in the order of their numbers from 1.
-const GROUNDS: [u8; 861] = *b"n not 3 to 256\n\
+const GROUNDS: [u8; 895] = *b"n not 3 to 256\n\
 w not 1 to 128\n\
 more than 512 requests, or an odd number of ends\n\
 an end is n or more\n\
@@ -33,10 +33,11 @@ more than 8,192 bytes, or a text not of the stated form\n\
 no line or more than 16\n\
 the circuit is live\n\
 already confirmed\n\
-a book with a pending record cannot be stored\n";
+a record that is pending or whose crew is not 0 cannot be stored\n\
+crew above 999\n";
 
 // The position behind the line of each ground.
-const ENDS: [u16; 26] = [
+const ENDS: [u16; 27] = [
     0,
     15,
     30,
@@ -62,7 +63,8 @@ const ENDS: [u16; 26] = [
     777,
     797,
     815,
-    861,
+    880,
+    895,
 ];
 
 // A ground in words, to the end of its line.

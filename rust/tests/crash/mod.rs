@@ -3,7 +3,7 @@ use std::process::Command;
 use std::sync::OnceLock;
 
 use crate::desk::{run, Folder, NaiveDesk, Run};
-use crate::reference::books::NaiveBook;
+use crate::reference::books::{NaiveBook, DESK};
 
 /// The library that stands between the program and its calls.
 fn shim() -> &'static str {
@@ -63,7 +63,7 @@ impl Story {
 pub fn desk_of(live: u16) -> NaiveDesk {
     let mut book = NaiveBook::open(64, 16).unwrap();
     for i in 0..live {
-        book.grant([i % 63, i % 63 + 1], 0, i / 63).unwrap();
+        book.grant([i % 63, i % 63 + 1, 0, i / 63, DESK]).unwrap();
     }
     NaiveDesk(Some(book))
 }
@@ -75,7 +75,16 @@ pub fn stories() -> [Story; 4] {
             NaiveDesk::default(),
             &["count", "open 64 16", "grant 0 1 0 0", "remove 1"],
         ),
-        Story::new(desk_of(0), &["grant 0 63 1 2", "open 3 1", "grant 3 9 0 2"]),
+        Story::new(
+            desk_of(0),
+            &[
+                "grant 0 63 1 2",
+                "open 3 1",
+                "grant 3 9 0 2 7",
+                "show 1 7",
+                "grant 3 9 0 2 0",
+            ],
+        ),
         Story::new(
             desk_of(63),
             &[

@@ -2,6 +2,7 @@
 #![allow(dead_code)]
 
 mod naive;
+mod typed;
 
 use std::fs;
 use std::io::{BufRead, BufReader, Read, Write};
@@ -10,6 +11,8 @@ use std::process::{Child, ChildStdin, ChildStdout, Command, ExitStatus, Stdio};
 
 #[allow(unused_imports)]
 pub use naive::*;
+#[allow(unused_imports)]
+pub use typed::*;
 
 /// A folder that is empty at first; the book's file is `book`, and the new one that takes its place `book.new`.
 pub struct Folder(PathBuf);

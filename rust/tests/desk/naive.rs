@@ -1,14 +1,12 @@
 //! A naive desk: what the program is to answer, and what its file is to hold.
 use std::collections::BTreeMap;
 
-use ring_planner::{Circuit, Refusal, Way};
+use ring_planner::{Circuit, Holder, Refusal, Way};
 
-use crate::reference::books::{NaiveBook, Previewed};
-use crate::reference::draws::{draw, draw_bundle, draw_grant, draw_serial};
+use crate::reference::books::{NaiveBook, Previewed, DESK};
 use crate::reference::stored::{change, encode, load};
-use crate::reference::Random;
 
-/// The commands, with how many numbers each has; `preview` has four for each line.
+/// The commands, with how many numbers each has; `preview` has those of a grant for each line.
 const COMMANDS: [(&str, usize); 10] = [
     ("open", 2),
     ("grant", 4),
@@ -22,19 +20,22 @@ const COMMANDS: [(&str, usize); 10] = [
     ("help", 0),
 ];
 
+/// The commands behind whose numbers a crew may stand.
+const WITH_CREW: [&str; 3] = ["grant", "show", "holder"];
+
 /// What `help` prints.
 pub const HELP: &str = "\
-open N W              begins a book for a ring of N nodes and W colours
-grant X Y WAY COLOUR  enters a circuit between nodes X and Y, WAY 0 plain or 1 seam, and gives its order a serial
-preview LINE, ..      the serials that up to 16 grants would get, each LINE as X Y WAY COLOUR
-remove SERIAL         removes an order; its colour stays held until the pull is confirmed
-confirm SERIAL        confirms that a removed order's patch is pulled, and frees its colour
-show SERIAL           the circuit of an order: its ends, P (plain) or S (seam), its colour
-holder LINK COLOUR    the order that has the colour on the link
-count                 how many orders are live, and how many were granted so far
-list                  every live order with its circuit
-pending               every removed order whose pull is not yet confirmed, with its circuit
-help                  these lines
+open N W                     begins a book for a ring of N nodes and W colours
+grant X Y WAY COLOUR [CREW]  enters a circuit between nodes X and Y, WAY 0 plain or 1 seam, and gives its order a serial
+preview LINE, ..             the serials that up to 16 grants would get, each LINE as X Y WAY COLOUR [CREW]
+remove SERIAL                removes an order; its colour stays held until the pull is confirmed
+confirm SERIAL               confirms that a removed order's patch is pulled, and frees its colour
+show SERIAL [CREW]           the circuit of an order: its ends, P (plain) or S (seam), its colour
+holder LINK COLOUR [CREW]    the order that has the colour on the link
+count                        how many orders are live, and how many were granted so far
+list                         every live order with its circuit
+pending                      every removed order whose pull is not yet confirmed, with its circuit
+help                         these lines
 ";
 
 pub const NO_BOOK: &str = "error there is no book yet (open N W begins one)\n";
@@ -64,7 +65,15 @@ fn numbers(words: &[&str]) -> Option<Vec<u16>> {
         .collect()
 }
 
-/// The numbers of a bundle, if its lines are four numbers each, a comma between them and behind it one space or none.
+/// The numbers, if there are so many, and behind them a crew: the desk, if no number more is there.
+fn with_crew(mut numbers: Vec<u16>, count: usize) -> Option<Vec<u16>> {
+    if numbers.len() == count {
+        numbers.push(DESK);
+    }
+    Some(numbers).filter(|found| found.len() == count + 1)
+}
+
+/// The numbers of a bundle, five for each line, if its lines are those of a grant, a comma between them and behind it one space or none.
 fn bundle(text: &str) -> Option<Vec<u16>> {
     if text.is_empty() {
         return Some(Vec::new());
@@ -72,16 +81,21 @@ fn bundle(text: &str) -> Option<Vec<u16>> {
     let mut all = Vec::new();
     for line in text.split(',') {
         let words: Vec<&str> = line.strip_prefix(' ').unwrap_or(line).split(' ').collect();
-        all.extend(numbers(&words).filter(|four| four.len() == 4)?);
+        all.extend(with_crew(numbers(&words)?, 4)?);
     }
     Some(all)
 }
 
-/// The numbers of a command, if the words behind its name are as it has them.
+/// The numbers of a command, if the words behind its name are as it has them, with the crew where one may stand.
 fn numbers_of(command: &str, words: &[&str]) -> Option<Vec<u16>> {
-    match command {
-        "preview" => bundle(&words.join(" ")),
-        _ => numbers(words).filter(|found| COMMANDS.contains(&(command, found.len()))),
+    if command == "preview" {
+        return bundle(&words.join(" "));
+    }
+    let (_, count) = COMMANDS.iter().find(|(name, _)| *name == command)?;
+    let found = numbers(words)?;
+    match WITH_CREW.contains(&command) {
+        true => with_crew(found, *count),
+        false => Some(found).filter(|found| found.len() == *count),
     }
 }
 
@@ -189,13 +203,15 @@ fn previewed((serials, stop): Previewed) -> String {
 /// The answer to a command on a book, or the refusal's number.
 fn answer_on(book: &mut NaiveBook, command: &str, numbers: &[u16]) -> Result<String, u16> {
     Ok(match (command, numbers) {
-        ("grant", &[x, y, way, colour]) => {
-            format!("granted {}\n", book.grant([x, y], way, colour)?)
+        ("grant", &[x, y, way, colour, crew]) => {
+            let serial = change(book, |book| book.grant([x, y, way, colour, crew]))?;
+            format!("granted {serial}\n")
         }
         ("preview", lines) => previewed(book.preview(lines.as_chunks().0)?),
-        ("holder", &[link, colour]) => match book.holder(link, colour)? {
-            Some(serial) => format!("held {serial}\n"),
-            None => "free\n".to_string(),
+        ("holder", &[link, colour, crew]) => match book.holder(link, colour, crew)? {
+            Holder::Free => "free\n".to_string(),
+            Holder::Held => "held\n".to_string(),
+            Holder::HeldBy(serial) => format!("held {serial}\n"),
         },
         ("remove", &[serial]) => {
             change(book, |book| book.remove(serial))?;
@@ -205,51 +221,9 @@ fn answer_on(book: &mut NaiveBook, command: &str, numbers: &[u16]) -> Result<Str
             change(book, |book| book.confirm(serial))?;
             format!("confirmed {serial}\n")
         }
-        ("show", &[serial]) => format!("circuit {}", shown(&book.show(serial)?)),
+        ("show", &[serial, crew]) => format!("circuit {}", shown(&book.show(serial, crew)?)),
         ("list", []) => orders(&book.live),
         ("pending", []) => orders(&book.pending),
         _ => format!("live {} grants {}\n", book.live.len(), book.grants),
     })
-}
-
-/// A bundle as it is typed, with this between its lines.
-pub fn typed(lines: &[[u16; 4]], between: &str) -> String {
-    let words: Vec<String> = lines
-        .iter()
-        .map(|line| line.map(|k| k.to_string()).join(" "))
-        .collect();
-    format!("preview {}", words.join(between))
-}
-
-/// A line of a random session.
-pub fn draw_line(random: &mut Random, desk: &NaiveDesk) -> String {
-    let Some(book) = &desk.0 else {
-        return format!("open {} {}\n", draw(random, 256), draw(random, 128));
-    };
-    let serial = match random.below(4) {
-        0 => draw(random, book.grants.saturating_add(2)),
-        _ => draw_serial(random, book),
-    };
-    let line = match random.below(16) {
-        0 => format!("open {} {}", draw(random, 256), draw(random, 128)),
-        1 => ["count", "list", "pending", "help", ""][random.below(5) as usize].to_string(),
-        2 => format!("show  {serial} "),
-        3 => format!("holder {} {}", draw(random, book.n), draw(random, book.w)),
-        4 => typed(
-            &draw_bundle(random, book.n, book.w),
-            [",", ", "][random.below(2) as usize],
-        ),
-        5 => format!("remove {serial}"),
-        6 => format!("confirm {serial}"),
-        _ => {
-            let ([x, y], way, colour) = draw_grant(random, book.n, book.w);
-            format!("grant {x} {y} {way} {colour}")
-        }
-    };
-    let mut bytes = line.into_bytes();
-    if !bytes.is_empty() && random.below(40) == 0 {
-        let at = random.below(bytes.len() as u64) as usize;
-        bytes[at] = b"09 xG-,"[random.below(7) as usize];
-    }
-    String::from_utf8(bytes).unwrap() + "\n"
 }

@@ -1,7 +1,13 @@
-//! A second book: a map from serials to circuits for each state of a record, with the rules' refusals in their order.
+//! A second book: a map from serials to circuits for each state of a record, one to the crews, with the rules' refusals in their order.
 use std::collections::BTreeMap;
 
-use ring_planner::{Circuit, Way};
+use ring_planner::{Circuit, Holder, Way};
+
+/// The crew that reads everything.
+pub const DESK: u16 = 0;
+
+/// A grant that is asked for, in any numbers: x, y, way, colour and crew.
+pub type Asked = [u16; 5];
 
 #[derive(Clone, Debug, PartialEq, Eq)]
 pub struct NaiveBook {
@@ -12,6 +18,8 @@ pub struct NaiveBook {
     pub live: BTreeMap<u16, Circuit>,
     /// The orders that were removed and whose pull is not confirmed: they keep their place and hold their colour.
     pub pending: BTreeMap<u16, Circuit>,
+    /// The crews of all orders, live or pending, that are not the desk's.
+    pub crews: BTreeMap<u16, u16>,
 }
 
 /// What a preview says: the serials, and the line that would be turned down with the number of its refusal.
@@ -45,6 +53,7 @@ impl NaiveBook {
             grants: 0,
             live: BTreeMap::new(),
             pending: BTreeMap::new(),
+            crews: BTreeMap::new(),
         })
     }
 
@@ -53,7 +62,18 @@ impl NaiveBook {
         self.live.iter().chain(&self.pending)
     }
 
-    pub fn grant(&mut self, [x, y]: [u16; 2], way: u16, colour: u16) -> Result<u16, u16> {
+    /// The crew of an order that has a record.
+    pub fn crew_of(&self, serial: u16) -> u16 {
+        self.crews.get(&serial).copied().unwrap_or(DESK)
+    }
+
+    /// Whether the stored form has room for every record: none is pending, and all are the desk's.
+    pub fn can_be_stored(&self) -> bool {
+        self.pending.is_empty() && self.crews.is_empty()
+    }
+
+    /// The circuit that is asked for, as far as the ring says.
+    fn circuit(&self, [x, y, way, colour, _]: Asked) -> Result<Circuit, u16> {
         if x >= self.n || y >= self.n {
             return Err(4);
         }
@@ -68,12 +88,20 @@ impl NaiveBook {
         if colour >= self.w {
             return Err(10);
         }
-        let circuit = Circuit {
+        Ok(Circuit {
             a: x.min(y),
             b: x.max(y),
             way,
             colour,
-        };
+        })
+    }
+
+    pub fn grant(&mut self, asked: Asked) -> Result<u16, u16> {
+        let circuit = self.circuit(asked)?;
+        let crew = asked[4];
+        if crew > 999 {
+            return Err(26);
+        }
         if self.records().any(|(_, c)| conflict(self.n, c, &circuit)) {
             return Err(11);
         }
@@ -85,18 +113,21 @@ impl NaiveBook {
         }
         self.grants += 1;
         self.live.insert(self.grants, circuit);
+        if crew != DESK {
+            self.crews.insert(self.grants, crew);
+        }
         Ok(self.grants)
     }
 
-    /// The grants one after another on a copy, up to the first that is refused. A line is x, y, way and colour.
-    pub fn preview(&self, lines: &[[u16; 4]]) -> Result<Previewed, u16> {
+    /// The grants one after another on a copy, up to the first that is refused.
+    pub fn preview(&self, lines: &[Asked]) -> Result<Previewed, u16> {
         if lines.is_empty() || lines.len() > 16 {
             return Err(22);
         }
         let mut copy = self.clone();
         let mut serials = Vec::new();
-        for (i, &[x, y, way, colour]) in lines.iter().enumerate() {
-            match copy.grant([x, y], way, colour) {
+        for (i, &asked) in lines.iter().enumerate() {
+            match copy.grant(asked) {
                 Ok(serial) => serials.push(serial),
                 Err(number) => return Ok((serials, Some((i, number)))),
             }
@@ -104,24 +135,33 @@ impl NaiveBook {
         Ok((serials, None))
     }
 
-    pub fn show(&self, serial: u16) -> Result<Circuit, u16> {
-        if serial == 0 || serial > self.grants {
-            return Err(14);
+    pub fn show(&self, serial: u16, crew: u16) -> Result<Circuit, u16> {
+        if crew > 999 {
+            return Err(26);
         }
-        self.live.get(&serial).copied().ok_or(15)
+        let readable = crew == DESK || crew == self.crew_of(serial);
+        match self.live.get(&serial).filter(|_| readable) {
+            Some(&circuit) => Ok(circuit),
+            None if crew == DESK && (1..=self.grants).contains(&serial) => Err(15),
+            None => Err(14),
+        }
     }
 
     pub fn remove(&mut self, serial: u16) -> Result<(), u16> {
-        let circuit = self.show(serial)?;
+        let circuit = self.show(serial, DESK)?;
         self.live.remove(&serial);
         self.pending.insert(serial, circuit);
         Ok(())
     }
 
     pub fn confirm(&mut self, serial: u16) -> Result<(), u16> {
-        match self.show(serial) {
+        match self.show(serial, DESK) {
             Ok(_) => Err(23),
-            Err(15) => self.pending.remove(&serial).map(|_| ()).ok_or(24),
+            Err(15) if self.pending.remove(&serial).is_none() => Err(24),
+            Err(15) => {
+                self.crews.remove(&serial);
+                Ok(())
+            }
             Err(number) => Err(number),
         }
     }
@@ -132,7 +172,10 @@ impl NaiveBook {
         self.confirm(serial)
     }
 
-    pub fn holder(&self, link: u16, colour: u16) -> Result<Option<u16>, u16> {
+    pub fn holder(&self, link: u16, colour: u16, crew: u16) -> Result<Holder, u16> {
+        if crew > 999 {
+            return Err(26);
+        }
         if link >= self.n {
             return Err(16);
         }
@@ -140,10 +183,12 @@ impl NaiveBook {
             return Err(10);
         }
         let holds = |c: &Circuit| c.colour == colour && uses(c, link);
-        Ok(self
-            .records()
-            .find(|(_, c)| holds(c))
-            .map(|(&serial, _)| serial))
+        Ok(match self.records().find(|(_, c)| holds(c)) {
+            None => Holder::Free,
+            Some((&serial, _)) if crew == DESK => Holder::HeldBy(serial),
+            Some((&serial, _)) if self.show(serial, crew).is_ok() => Holder::HeldBy(serial),
+            Some(_) => Holder::Held,
+        })
     }
 }
 
@@ -151,7 +196,8 @@ impl NaiveBook {
 pub fn many(live: u16, grants: u16) -> NaiveBook {
     let mut book = NaiveBook::open(256, 4).unwrap();
     for i in 0..live {
-        book.grant([i % 255, i % 255 + 1], 0, i / 255).unwrap();
+        book.grant([i % 255, i % 255 + 1, 0, i / 255, DESK])
+            .unwrap();
     }
     book.grants = grants;
     book

@@ -3,7 +3,7 @@ use std::collections::BTreeMap;
 
 use ring_planner::Circuit;
 
-use super::books::NaiveBook;
+use super::books::{Asked, NaiveBook, DESK};
 use super::Random;
 
 /// A number below the limit, now and then another one.
@@ -16,8 +16,26 @@ pub fn draw(random: &mut Random, limit: u16) -> u16 {
     }
 }
 
-/// A grant's ends, way and colour: ways of few links for the most part, so that many fit.
-pub fn draw_grant(random: &mut Random, n: u16, w: u16) -> ([u16; 2], u16, u16) {
+/// A crew: the desk or one of three others, now and then the last one there is, the first one there is not, or any number.
+pub fn draw_crew(random: &mut Random) -> u16 {
+    match random.below(32) {
+        0 => 999,
+        1 => 1000,
+        2 => random.below(65536) as u16,
+        _ => random.below(4) as u16,
+    }
+}
+
+/// The desk, and now and then any crew: what is granted to another than the desk cannot be stored.
+pub fn draw_desk(random: &mut Random) -> u16 {
+    match random.below(8) {
+        0 => draw_crew(random),
+        _ => DESK,
+    }
+}
+
+/// A grant: ways of few links for the most part, so that many fit, and the desk's for the most part.
+pub fn draw_grant(random: &mut Random, n: u16, w: u16) -> Asked {
     let x = draw(random, n);
     let step = match random.below(8) {
         0 => draw(random, n),
@@ -33,20 +51,14 @@ pub fn draw_grant(random: &mut Random, n: u16, w: u16) -> ([u16; 2], u16, u16) {
         0 => random.below(65536) as u16,
         _ => around as u16,
     };
-    (
-        if random.below(2) == 0 { [x, y] } else { [y, x] },
-        way,
-        draw(random, w),
-    )
+    let [x, y] = if random.below(2) == 0 { [x, y] } else { [y, x] };
+    [x, y, way, draw(random, w), draw_desk(random)]
 }
 
 /// The lines of a bundle, 0 to 17 of them.
-pub fn draw_bundle(random: &mut Random, n: u16, w: u16) -> Vec<[u16; 4]> {
-    let line = |random: &mut Random| {
-        let ([x, y], way, colour) = draw_grant(random, n, w);
-        [x, y, way, colour]
-    };
-    (0..random.below(18)).map(|_| line(random)).collect()
+pub fn draw_bundle(random: &mut Random, n: u16, w: u16) -> Vec<Asked> {
+    let count = random.below(18);
+    (0..count).map(|_| draw_grant(random, n, w)).collect()
 }
 
 /// A serial, most often one that is live.

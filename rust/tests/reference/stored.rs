@@ -39,9 +39,9 @@ fn block(number: usize, fields: &[u16]) -> Vec<u8> {
     bytes
 }
 
-/// The stored form of a book, which has no pending record.
+/// The stored form of a book whose records are all live and the desk's.
 pub fn encode(book: &NaiveBook) -> Vec<u8> {
-    assert!(book.pending.is_empty(), "a pending record has no form");
+    assert!(book.can_be_stored(), "every record has a form");
     let header = [book.n, book.w, book.grants, book.live.len() as u16];
     let records: Vec<[u16; 4]> = book
         .live
@@ -55,21 +55,22 @@ pub fn encode(book: &NaiveBook) -> Vec<u8> {
     bytes
 }
 
-/// A change of a book that lies in its stored form: with a pending record it could not be stored again, and stays as it was.
+/// A change of a book that lies in its stored form: with a record that is pending or not the desk's it could not be stored again, and stays
+/// as it was.
 pub fn change<T>(
     book: &mut NaiveBook,
     act: impl FnOnce(&mut NaiveBook) -> Result<T, u16>,
 ) -> Result<T, u16> {
     let mut changed = book.clone();
     let answer = act(&mut changed)?;
-    if !changed.pending.is_empty() {
+    if !changed.can_be_stored() {
         return Err(25);
     }
     *book = changed;
     Ok(answer)
 }
 
-/// The book of a stored form, or the number of the refusal.
+/// The book of a stored form, in which every record is the desk's, or the number of the refusal.
 pub fn load(bytes: &[u8]) -> Result<NaiveBook, u16> {
     if bytes.is_empty() || !bytes.len().is_multiple_of(BLOCK) || bytes.len() > 5120 {
         return Err(18);

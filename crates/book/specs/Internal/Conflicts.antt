@@ -31,8 +31,8 @@ ConflictMeans = (b : Book) → Valid b → (way : Way) (r : Request) (colour : �
     → conflictIn (recordsOf b) way r colour ≡ colourHeld b way r colour
 
 -- `grantVerdict` with ground 11 by ends
-unfoldable pub verdictByEnds : Book → ℕ → ℕ → ℕ → ℕ → Verdict
-verdictByEnds b x y way colour =
-    orElse (argumentVerdict (b .n) (b .w) x y way colour)
+unfoldable pub verdictByEnds : Book → ℕ → ℕ → ℕ → ℕ → ℕ → Verdict
+verdictByEnds b x y way colour crew =
+    orElse (argumentVerdict (b .n) (b .w) x y way colour crew)
     (orElse (refuseIf (conflictIn (recordsOf b) (wayOf way) (requestOf x y) colour) ColourHeld)
     (roomVerdict (b .records) (b .grants)))

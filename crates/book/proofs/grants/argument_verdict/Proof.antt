@@ -13,21 +13,29 @@ refuse-if-requires c κs = search needs
 refuse-if-requires-2 : tie.Need-refuse-if-requires-2
 refuse-if-requires-2 c κs = search needs
 
+crew-verdict-requires : tie.Need-crew-verdict-requires
+crew-verdict-requires c κs = search needs
+
 or-else-requires : tie.Need-or-else-requires
 or-else-requires c κs = search needs
 
 or-else-requires-2 : tie.Need-or-else-requires-2
 or-else-requires-2 c κs = search needs
 
+or-else-requires-3 : tie.Need-or-else-requires-3
+or-else-requires-3 c κs = search needs
+
 returns : tie.Need-returns
 unfolding argumentVerdict
 returns c =
-    c .or-else2 .ensures
+    c .or-else3 .ensures
     ∙ simp (
-      c .before .or-else .ensures,
-      c .before .before .refuse-if2 .ensures,
-      c .before .before .before .refuse-if .ensures,
-      c .before .before .before .before .ends-verdict .ensures,
+      c .before .or-else2 .ensures,
+      c .before .before .or-else .ensures,
+      c .before .before .before .crew-verdict .ensures,
+      c .before .before .before .before .refuse-if2 .ensures,
+      c .before .before .before .before .before .refuse-if .ensures,
+      c .before .before .before .before .before .before .ends-verdict .ensures,
     )
 
 pub argument-verdict-spec : {M : Type 1} → statement M
@@ -37,6 +45,8 @@ argument-verdict-spec =
     ends-verdict-requires
     refuse-if-requires
     refuse-if-requires-2
+    crew-verdict-requires
     or-else-requires
     or-else-requires-2
+    or-else-requires-3
     returns)

@@ -24,7 +24,7 @@ enum-known-verdict c = search needs
 returns : tie.Need-returns
 returns c =
     let s = c .before .before .before .before .before .before .args in
-    grant-allowed (s .book) (s .x) (s .y) (s .way) (s .colour) (c .before .before .grant-verdict .result)
+    grant-allowed (s .book) (s .x) (s .y) (s .way) (s .colour) (s .crew) (c .before .before .grant-verdict .result)
     (c .before .before .before .before .before .next-serial .result) (c .before .before .before .before .circuit-of .result)
     (c .before .before .before .enter .result)
     (c .before .before .grant-verdict .ensures) (c .enum-told .given .1) (c .before .before .before .before .before .next-serial .ensures)
@@ -33,7 +33,7 @@ returns c =
 returns-2 : tie.Need-returns-2
 returns-2 c =
     let s = c .before .before .before .before .before .before .before .args in
-    grant-refused (s .book) (s .x) (s .y) (s .way) (s .colour) (c .before .before .before .grant-verdict .result) _
+    grant-refused (s .book) (s .x) (s .y) (s .way) (s .colour) (s .crew) (c .before .before .before .grant-verdict .result) _
     (c .before .before .before .grant-verdict .ensures) (c .before .verdict .given .1)
 
 pub grant-spec : {M : Type 1} → statement M

@@ -3,19 +3,34 @@ use Prim.Native.Nat.{ℕ}
 use mathlib.Core.Path.{_≡_, sym, _∙_, ap}
 use native.Mathlib.Omega.{arith}
 use lib.ListN.{take}
-use Rattle.ring.specs.declared.refusals.Verdict.the-variants.{Allowed}
-use Rattle.book.specs.Holders.{holderVerdict, heldBy}
+use Rattle.ring.specs.declared.refusals.Verdict.{Verdict}
+use Rattle.ring.specs.Refusals.{orElse}
+use Rattle.book.specs.Crews.{crewVerdict}
+use Rattle.book.specs.Holders.{holderVerdict, heldFor}
 use Rattle.book.specs.Internal.Places.{holderPlace}
 use Rattle.book.proofs.Holding.{answer-held, answer-free}
 use Rattle.book.proofs.holders.holder.Statement.{statement}
 use Rattle.book.proofs.holders.holder.Tie as tie
 
--- neither 16 nor 10 is there
-allowed : (c : tie.After-or-else) → c .or-else .result ≡ Allowed
-    → holderVerdict (c .before .before .before .args .t1) (c .before .before .before .args .link) (c .before .before .before .args .colour)
-    ≡ Allowed
+-- the first ground of 26, 16 and 10
+abbrev asked : tie.After-or-else2 → Verdict
+asked c =
+    let s = c .before .before .before .before .before .args in
+    orElse (crewVerdict (s .crew)) (holderVerdict (s .t1) (s .link) (s .colour))
+
+tested : (c : tie.After-or-else2) → c .or-else2 .result ≡ asked c
 unfolding holderVerdict
-allowed c e = simp (sym (c .before .before .refuse-if .ensures), sym (c .before .refuse-if2 .ensures), sym (c .or-else .ensures), e)
+tested c =
+    c .or-else2 .ensures
+    ∙ simp (
+      c .before .or-else .ensures,
+      c .before .before .refuse-if2 .ensures,
+      c .before .before .before .refuse-if .ensures,
+      c .before .before .before .before .crew-verdict .ensures,
+    )
+
+crew-verdict-requires : tie.Need-crew-verdict-requires
+crew-verdict-requires c κs = search needs
 
 refuse-if-requires : tie.Need-refuse-if-requires
 refuse-if-requires c κs = search needs
@@ -26,17 +41,15 @@ refuse-if-requires-2 c κs = search needs
 or-else-requires : tie.Need-or-else-requires
 or-else-requires c κs = search needs
 
+or-else-requires-2 : tie.Need-or-else-requires-2
+or-else-requires-2 c κs = search needs
+
 enum-known-verdict : tie.Need-enum-known-verdict
 enum-known-verdict c = search needs
 
 returns : tie.Need-returns
-unfolding heldBy holderVerdict
-returns c = simp (
-  sym (c .before .before .before .before .before .refuse-if .ensures),
-  sym (c .before .before .before .before .refuse-if2 .ensures),
-  sym (c .before .before .before .or-else .ensures),
-  c .before .verdict .given .1,
-)
+unfolding heldFor
+returns c = simp (sym (tested (c .before .before .before)), c .before .verdict .given .1)
 
 enum-told : tie.Need-enum-told
 enum-told c = search needs
@@ -53,24 +66,28 @@ mul-circuit c = search needs
 element-copy-out-circuit : tie.Need-element-copy-out-circuit
 element-copy-out-circuit c = search needs
 
+told-to-requires : tie.Need-told-to-requires
+told-to-requires c κs = search needs
+
 returns-2 : tie.Need-returns-2
 returns-2 c =
-    let search = c .before .before in
-    let count = c .before .before .before .before in
-    let s = c .before .before .before .before .before .before .before .before .before .before .args in
-    answer-held (s .t1) (s .link) (s .colour) (search .holder-search .result)
-    (allowed (c .before .before .before .before .before .before .before)
-    (c .before .before .before .before .before .enum-told .given .1))
+    let search = c .before .before .before in
+    let count = search .before .before in
+    let verdict = count .before .before .before in
+    let s = verdict .before .before .before .before .before .args in
+    c .told-to .ensures ∙ answer-held (s .crew) (s .t1) (s .link) (s .colour) (search .holder-search .result)
+    (sym (tested verdict) ∙ count .before .enum-told .given .1)
     (search .holder-search .ensures
     ∙ ap (λ (m : ℕ). holderPlace 0 (take m (s .t1 .places)) (s .link) (s .colour)) (count .record-count .ensures .0)) (omega arith)
 
 returns-3 : tie.Need-returns-3
 returns-3 c =
     let search = c .before in
-    let count = c .before .before .before in
-    let s = c .before .before .before .before .before .before .before .before .before .args in
-    answer-free (s .t1) (s .link) (s .colour) (search .holder-search .result)
-    (allowed (c .before .before .before .before .before .before) (c .before .before .before .before .enum-told .given .1))
+    let count = search .before .before in
+    let verdict = count .before .before .before in
+    let s = verdict .before .before .before .before .before .args in
+    answer-free (s .crew) (s .t1) (s .link) (s .colour) (search .holder-search .result)
+    (sym (tested verdict) ∙ count .before .enum-told .given .1)
     (search .holder-search .ensures
     ∙ ap (λ (m : ℕ). holderPlace 0 (take m (s .t1 .places)) (s .link) (s .colour)) (count .record-count .ensures .0)) (omega arith)
 
@@ -78,9 +95,11 @@ pub holder-spec : {M : Type 1} → statement M
 holder-spec =
     tie.close
     (tie.spec
+    crew-verdict-requires
     refuse-if-requires
     refuse-if-requires-2
     or-else-requires
+    or-else-requires-2
     enum-known-verdict
     returns
     enum-told
@@ -88,5 +107,6 @@ holder-spec =
     holder-search-requires
     mul-circuit
     element-copy-out-circuit
+    told-to-requires
     returns-2
     returns-3)

@@ -83,9 +83,9 @@ module _ (ys : List Circuit) (link colour : ℕ) where
   from-miss i l false t e = holder-passed ys link colour i l (sym e)
 
 -- the offset of a record of the slice fits a usize
-scaled : (n i : ℕ) → Room T.the-row n → i < n → i * 10 < 2 ^ 64
+scaled : (n i : ℕ) → Room T.the-row n → i < n → i * 12 < 2 ^ 64
 scaled n i g l =
-    let h : n * 10 < 2 ^ 63 = g .1 in
+    let h : n * 12 < 2 ^ 63 = g .1 in
     omega arith
 
 -- ---- the MIR's pieces
@@ -236,7 +236,7 @@ module _ {M : Type 1} (𝓤 : URA M) (H : Heap 𝓤) (A : Atoms 𝓤) (W : Given
         (from ! (stop !)) (store ! 9 refl (tt, record { fits = scaled (length ys) i gs (lt less) })) $
         assigns ! (bin ! (load ! (from ! (fld ! refl (stop !))) (look-in ! 19 (sub ! 0 refl (whole !))))
         (load ! (from ! (stop !)) (look ! 9 refl)) tt) (from ! (stop !)) (init ! 5 refl (tt, tt)) $
-        rewrite ! 5 (λ (p : ℕ). ‵ (fat fullShare tyPtr l₈ 0 (vptr b p))) (sym (place-is 10 o i)) refl $
+        rewrite ! 5 (λ (p : ℕ). ‵ (fat fullShare tyPtr l₈ 0 (vptr b p))) (sym (place-is 12 o i)) refl $
         elem-out ! T.the-row (Is T.the-row) (shows 𝓤 H A T.the-row) (LL.vals T.the-type T′.the-laws)
         (LL.tells T.the-type T′.the-laws) q′ ys i vacant b o (lt less) (λ g.
         -- [places[i]; what it owns; the others; _11; …]

@@ -26,7 +26,7 @@ returns c =
     let start = grant .before in
     let s = start .args in
     λ v. c .storing .ensures
-    ∙ grant-told (s .book) (s .x) (s .y) (s .way) (s .colour) (grant .grant .ensures .valid v) (answer .answer .given .1)
+    ∙ grant-told (s .book) (s .x) (s .y) (s .way) (s .colour) (s .crew) (grant .grant .ensures .valid v) (answer .answer .given .1)
 
 returns-2 : tie.Need-returns-2
 returns-2 c =
@@ -35,7 +35,7 @@ returns-2 c =
     let start = grant .before in
     let s = start .args in
     λ v. c .only .ensures
-    ∙ grant-told (s .book) (s .x) (s .y) (s .way) (s .colour) (grant .grant .ensures .valid v) (answer2 .answer2 .given .1)
+    ∙ grant-told (s .book) (s .x) (s .y) (s .way) (s .colour) (s .crew) (grant .grant .ensures .valid v) (answer2 .answer2 .given .1)
 
 pub answer-grant-spec : {M : Type 1} → statement M
 answer-grant-spec =

@@ -15,12 +15,12 @@ enum-known-answer-2 c = search needs
 returns : tie.Need-returns
 returns c =
     let s = c .before .before .before .before .args in
-    show-told (s .book) (s .serial) (c .before .before .before .show .ensures) (c .before .answer .given .1)
+    show-told (s .book) (s .serial) (s .crew) (c .before .before .before .show .ensures) (c .before .answer .given .1)
 
 returns-2 : tie.Need-returns-2
 returns-2 c =
     let s = c .before .before .before .before .args in
-    show-told (s .book) (s .serial) (c .before .before .before .show .ensures) (c .before .answer2 .given .1)
+    show-told (s .book) (s .serial) (s .crew) (c .before .before .before .show .ensures) (c .before .answer2 .given .1)
 
 pub answer-show-spec : {M : Type 1} → statement M
 answer-show-spec =

@@ -51,8 +51,8 @@ returns-3 c =
     lost-third (field .field .ensures) (first .first .given .1) (field2 .field2 .ensures) (middle .middle .given .1)
     (field3 .field3 .ensures) (c .enum-told3 .given .1)
 
-field-requires-4 : tie.Need-field-requires-4
-field-requires-4 c κs = field-found (c .before .before .before .field3 .ensures) (c .before .choice .given .1) .1 .1
+crewed-at-requires : tie.Need-crewed-at-requires
+crewed-at-requires c κs = field-found (c .before .before .before .field3 .ensures) (c .before .choice .given .1) .1 .1
 
 enum-known-last : tie.Need-enum-known-last
 enum-known-last c = search needs
@@ -62,28 +62,28 @@ enum-told-4 c = search needs
 
 returns-4 : tie.Need-returns-4
 returns-4 c =
-    let field4 = c .before .before in
-    let choice = field4 .before .before in
+    let last-read = c .before .before in
+    let choice = last-read .before .before in
     let field3 = choice .before .before in
     let middle = field3 .before .before in
     let field2 = middle .before .before in
     let first = field2 .before .before in
     let field = first .before .before in
     lost-fourth (field .field .ensures) (first .first .given .1) (field2 .field2 .ensures) (middle .middle .given .1)
-    (field3 .field3 .ensures) (choice .choice .given .1) (field4 .field4 .ensures) (c .enum-told4 .given .1)
+    (field3 .field3 .ensures) (choice .choice .given .1) (last-read .crewed-at .ensures) (c .enum-told4 .given .1)
 
 returns-5 : tie.Need-returns-5
 returns-5 c =
     let last = c .before in
-    let field4 = last .before .before in
-    let choice = field4 .before .before in
+    let last-read = last .before .before in
+    let choice = last-read .before .before in
     let field3 = choice .before .before in
     let middle = field3 .before .before in
     let field2 = middle .before .before in
     let first = field2 .before .before in
     let field = first .before .before in
     all-found (field .field .ensures) (first .first .given .1) (field2 .field2 .ensures) (middle .middle .given .1)
-    (field3 .field3 .ensures) (choice .choice .given .1) (field4 .field4 .ensures) (last .last .given .1)
+    (field3 .field3 .ensures) (choice .choice .given .1) (last-read .crewed-at .ensures) (last .last .given .1)
 
 pub asked-at-spec : {M : Type 1} → statement M
 asked-at-spec =
@@ -101,7 +101,7 @@ asked-at-spec =
     enum-known-choice
     enum-told-3
     returns-3
-    field-requires-4
+    crewed-at-requires
     enum-known-last
     enum-told-4
     returns-4

@@ -67,6 +67,15 @@ slice-aggregate-put c = search needs
 put-requires : tie.Need-put-requires
 put-requires c κs = search needs
 
+enum-told-3 : tie.Need-enum-told-3
+enum-told-3 c = search needs
+
+slice-aggregate-put-2 : tie.Need-slice-aggregate-put-2
+slice-aggregate-put-2 c = search needs
+
+put-requires-2 : tie.Need-put-requires-2
+put-requires-2 c κs = search needs
+
 enum-known-reply-6 : tie.Need-enum-known-reply-6
 enum-known-reply-6 c = search needs
 
@@ -88,14 +97,14 @@ slice-aggregate-put-two-4 c = search needs
 put-two-requires-2 : tie.Need-put-two-requires-2
 put-two-requires-2 c κs = search needs
 
-enum-told-3 : tie.Need-enum-told-3
-enum-told-3 c = search needs
+enum-told-4 : tie.Need-enum-told-4
+enum-told-4 c = search needs
 
 put-orders-requires : tie.Need-put-orders-requires
 put-orders-requires c κs = search needs
 
-enum-told-4 : tie.Need-enum-told-4
-enum-told-4 c = search needs
+enum-told-5 : tie.Need-enum-told-5
+enum-told-5 c = search needs
 
 put-orders-requires-2 : tie.Need-put-orders-requires-2
 put-orders-requires-2 c κs = search needs
@@ -106,15 +115,6 @@ enum-known-reply-8 c = search needs
 put-refused-requires : tie.Need-put-refused-requires
 put-refused-requires c κs = search needs
 
-enum-told-5 : tie.Need-enum-told-5
-enum-told-5 c = search needs
-
-slice-aggregate-put-2 : tie.Need-slice-aggregate-put-2
-slice-aggregate-put-2 c = search needs
-
-put-requires-2 : tie.Need-put-requires-2
-put-requires-2 c κs = search needs
-
 enum-told-6 : tie.Need-enum-told-6
 enum-told-6 c = search needs
 
@@ -123,6 +123,15 @@ slice-aggregate-put-3 c = search needs
 
 put-requires-3 : tie.Need-put-requires-3
 put-requires-3 c κs = search needs
+
+enum-told-7 : tie.Need-enum-told-7
+enum-told-7 c = search needs
+
+slice-aggregate-put-4 : tie.Need-slice-aggregate-put-4
+slice-aggregate-put-4 c = search needs
+
+put-requires-4 : tie.Need-put-requires-4
+put-requires-4 c κs = search needs
 
 enum-known-reply-9 : tie.Need-enum-known-reply-9
 enum-known-reply-9 c = search needs
@@ -176,39 +185,39 @@ same-length-8 : tie.Need-same-length-8
 same-length-8 c = search needs
 
 returns-8 : tie.Need-returns-8
-returns-8 c = rw (c .before .before .before .before .before .before .reply6 .given .1) (c .before .before .put-one4 .ensures)
+returns-8 c = rw (c .before .before .before .before .before .enum-told3 .given .1) (c .before .before .put2 .ensures)
 
 same-length-9 : tie.Need-same-length-9
 same-length-9 c = search needs
 
 returns-9 : tie.Need-returns-9
-returns-9 c = rw (c .before .before .before .before .before .before .before .reply7 .given .1) (c .before .before .put-two2 .ensures)
+returns-9 c = rw (c .before .before .before .before .before .before .reply6 .given .1) (c .before .before .put-one4 .ensures)
 
 same-length-10 : tie.Need-same-length-10
 same-length-10 c = search needs
 
 returns-10 : tie.Need-returns-10
-unfolding ordersText
-returns-10 c = rw (c .before .before .before .before .enum-told3 .given .1) (c .before .before .put-orders .ensures)
+returns-10 c = rw (c .before .before .before .before .before .before .before .reply7 .given .1) (c .before .before .put-two2 .ensures)
 
 same-length-11 : tie.Need-same-length-11
 same-length-11 c = search needs
 
 returns-11 : tie.Need-returns-11
-unfolding pendingText
-returns-11 c = rw (c .before .before .before .before .enum-told4 .given .1) (c .before .before .put-orders2 .ensures)
+unfolding ordersText
+returns-11 c = rw (c .before .before .before .before .enum-told4 .given .1) (c .before .before .put-orders .ensures)
 
 same-length-12 : tie.Need-same-length-12
 same-length-12 c = search needs
 
 returns-12 : tie.Need-returns-12
-returns-12 c = rw (c .before .before .before .before .before .reply8 .given .1) (c .before .before .put-refused .ensures)
+unfolding pendingText
+returns-12 c = rw (c .before .before .before .before .enum-told5 .given .1) (c .before .before .put-orders2 .ensures)
 
 same-length-13 : tie.Need-same-length-13
 same-length-13 c = search needs
 
 returns-13 : tie.Need-returns-13
-returns-13 c = rw (c .before .before .before .before .before .enum-told5 .given .1) (c .before .before .put2 .ensures)
+returns-13 c = rw (c .before .before .before .before .before .reply8 .given .1) (c .before .before .put-refused .ensures)
 
 same-length-14 : tie.Need-same-length-14
 same-length-14 c = search needs
@@ -220,7 +229,13 @@ same-length-15 : tie.Need-same-length-15
 same-length-15 c = search needs
 
 returns-15 : tie.Need-returns-15
-returns-15 c = rw (c .before .before .before .before .before .reply9 .given .1) (c .before .before .put-aside .ensures)
+returns-15 c = rw (c .before .before .before .before .before .enum-told7 .given .1) (c .before .before .put4 .ensures)
+
+same-length-16 : tie.Need-same-length-16
+same-length-16 c = search needs
+
+returns-16 : tie.Need-returns-16
+returns-16 c = rw (c .before .before .before .before .before .reply9 .given .1) (c .before .before .put-aside .ensures)
 
 pub put-reply-spec : {M : Type 1} → statement M
 put-reply-spec =
@@ -247,6 +262,9 @@ put-reply-spec =
     enum-told-2
     slice-aggregate-put
     put-requires
+    enum-told-3
+    slice-aggregate-put-2
+    put-requires-2
     enum-known-reply-6
     slice-aggregate-put-one-4
     put-one-requires-4
@@ -254,18 +272,18 @@ put-reply-spec =
     slice-aggregate-put-two-3
     slice-aggregate-put-two-4
     put-two-requires-2
-    enum-told-3
-    put-orders-requires
     enum-told-4
+    put-orders-requires
+    enum-told-5
     put-orders-requires-2
     enum-known-reply-8
     put-refused-requires
-    enum-told-5
-    slice-aggregate-put-2
-    put-requires-2
     enum-told-6
     slice-aggregate-put-3
     put-requires-3
+    enum-told-7
+    slice-aggregate-put-4
+    put-requires-4
     enum-known-reply-9
     put-aside-requires
     same-length
@@ -297,4 +315,6 @@ put-reply-spec =
     same-length-14
     returns-14
     same-length-15
-    returns-15)
+    returns-15
+    same-length-16
+    returns-16)

@@ -1,4 +1,4 @@
--- Position `at` stays within the bytes, and each turn leaves ten fewer of them.
+-- Position `at` stays within the bytes, and each turn leaves twelve fewer of them.
 use borrow.Author.Needs.{needs}
 use Prim.Native.Nat.{_-_, _≤_}
 use lib.ListN.{length}

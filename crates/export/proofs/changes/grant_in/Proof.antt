@@ -31,7 +31,7 @@ returns c =
     let grant = told .before .before in
     let start = grant .before .before .before in
     let s = start .args in
-    changed-as (by-grant (s .book) (s .x) (s .y) (s .way) (s .colour) (s .buffer .now) (grant .grant .ensures .valid (start .pre))
+    changed-as (by-grant (s .book) (s .x) (s .y) (s .way) (s .colour) (s .crew) (s .buffer .now) (grant .grant .ensures .valid (start .pre))
     (told .answer .given .1)) (keep .keep-granted .ensures)
 
 same-length-3 : tie.Need-same-length-3
@@ -45,7 +45,7 @@ returns-2 c =
     let start = grant .before .before .before in
     let s = start .args in
     refused-change (told .answer2 .given .0 .0)
-    (grant-refused (told .answer2 .given .0 .0) (s .book) (s .x) (s .y) (s .way) (s .colour) (s .buffer .now)
+    (grant-refused (told .answer2 .given .0 .0) (s .book) (s .x) (s .y) (s .way) (s .colour) (s .crew) (s .buffer .now)
     (grant .grant .ensures .valid (start .pre)) (told .answer2 .given .1)) (refused .refused .ensures)
 
 pub grant-in-spec : {M : Type 1} → statement M

@@ -37,7 +37,7 @@ returns c =
     let told = done .before .before .before .before in
     let load = told .before .before in
     let s = load .before .before .before .before .args in
-    changed-as (by-load (s .buffer .now) (s .length) (λ (b : Book). grantOn b (s .x) (s .y) (s .way) (s .colour) (s .buffer .now))
+    changed-as (by-load (s .buffer .now) (s .length) (λ (b : Book). grantOn b (s .x) (s .y) (s .way) (s .colour) (s .crew) (s .buffer .now))
     (load .load-front .ensures) (told .enum-told .given .1)) (done .grant-in .ensures)
 
 same-length-3 : tie.Need-same-length-3
@@ -55,8 +55,8 @@ returns-2 c =
     let s = load .before .before .before .before .args in
     refused-change (told .answer .given .0 .0)
     (load-refused (told .answer .given .0 .0) (s .buffer .now) (s .length)
-    (λ (b : Book). grantOn b (s .x) (s .y) (s .way) (s .colour) (s .buffer .now)) (load .load-front .ensures) (told .answer .given .1))
-    (refused .refused .ensures)
+    (λ (b : Book). grantOn b (s .x) (s .y) (s .way) (s .colour) (s .crew) (s .buffer .now)) (load .load-front .ensures)
+    (told .answer .given .1)) (refused .refused .ensures)
 
 pub tarziloen-book-grant-spec : {M : Type 1} → statement M
 tarziloen-book-grant-spec =

@@ -11,7 +11,7 @@ use Rattle.export.proofs.previews.bundle_of.Tie as tie
 
 abbrev Inv-loop : tie.InvT-loop
 Inv-loop entries bundle₀ count i₀ bundle i =
-    (i ≤ count) × ((count ≡ length entries / 4) × Filling entries i bundle)
+    (i ≤ count) × ((count ≡ length entries / 5) × Filling entries i bundle)
 
 abbrev μ-loop : tie.MeasureT-loop
 μ-loop entries bundle₀ count i₀ bundle i = count - i

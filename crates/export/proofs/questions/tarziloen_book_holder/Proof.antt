@@ -1,5 +1,5 @@
 use Rattle.book.specs.declared.books.Book.{Book}
-use Rattle.book.specs.Holders.{heldBy, holderInNumbers}
+use Rattle.book.specs.Holders.{heldFor, holderInNumbers}
 use Rattle.export.specs.BookCalls.{holderCall}
 use Rattle.export.proofs.OutcomeLaws.{answered-as, asking-refused, by-asking}
 use borrow.Author.Needs.{needs}
@@ -31,7 +31,7 @@ returns c =
     let told = answer .before .before .before in
     let load = told .before .before in
     let s = load .before .before .before .args in
-    answered-as (by-asking (s .bytes .now) (λ (b : Book). holderInNumbers (heldBy b (s .link) (s .colour))) (load .load .ensures)
+    answered-as (by-asking (s .bytes .now) (λ (b : Book). holderInNumbers (heldFor (s .crew) b (s .link) (s .colour))) (load .load .ensures)
     (told .enum-told .given .1)) (answer .holder-in .ensures)
 
 same-length-2 : tie.Need-same-length-2
@@ -44,7 +44,8 @@ returns-2 c =
     let told = refused .before .before .before in
     let load = told .before .before in
     let s = load .before .before .before .args in
-    answered-as (asking-refused (told .answer .given .0 .0) (s .bytes .now) (λ (b : Book). holderInNumbers (heldBy b (s .link) (s .colour)))
+    answered-as (asking-refused (told .answer .given .0 .0) (s .bytes .now)
+    (λ (b : Book). holderInNumbers (heldFor (s .crew) b (s .link) (s .colour)))
     (load .load .ensures) (told .answer .given .1)) (refused .refused .ensures)
 
 pub tarziloen-book-holder-spec : {M : Type 1} → statement M

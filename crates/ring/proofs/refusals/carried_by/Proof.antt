@@ -85,6 +85,9 @@ enum-told-22 c = search needs
 enum-told-23 : tie.Need-enum-told-23
 enum-told-23 c = search needs
 
+enum-told-24 : tie.Need-enum-told-24
+enum-told-24 c = search needs
+
 returns : tie.Need-returns
 returns c = ap carriedBy (sym (c .enum-told .given .1))
 
@@ -166,6 +169,9 @@ returns-26 c = ap carriedBy (sym (c .enum-told22 .given .1))
 returns-27 : tie.Need-returns-27
 returns-27 c = ap carriedBy (sym (c .enum-told23 .given .1))
 
+returns-28 : tie.Need-returns-28
+returns-28 c = ap carriedBy (sym (c .enum-told24 .given .1))
+
 pub carried-by-spec : {M : Type 1} → statement M
 carried-by-spec =
     tie.close
@@ -197,6 +203,7 @@ carried-by-spec =
     enum-told-21
     enum-told-22
     enum-told-23
+    enum-told-24
     returns
     returns-2
     returns-3
@@ -223,4 +230,5 @@ carried-by-spec =
     returns-24
     returns-25
     returns-26
-    returns-27)
+    returns-27
+    returns-28)

@@ -1,16 +1,16 @@
 use mathlib.Core.Path.{sym, _∙_}
 use borrow.Author.Needs.{needs}
-use Rattle.stored.proofs.StoreLaws.{store-pending, store-live}
+use Rattle.stored.proofs.StoreLaws.{store-marked, store-unmarked}
 use Rattle.stored.proofs.stores.store.Statement.{statement}
 use Rattle.stored.proofs.stores.store.Tie as tie
 
-has-pending-requires : tie.Need-has-pending-requires
-has-pending-requires c κs = search needs
+has-marked-requires : tie.Need-has-marked-requires
+has-marked-requires c κs = search needs
 
 returns : tie.Need-returns
 returns c =
     let s = c .before .before .before .args in
-    store-pending (s .book) (s .buffer .now) (sym (c .before .has-pending .ensures) ∙ c .if1 .taken)
+    store-marked (s .book) (s .buffer .now) (sym (c .before .has-marked .ensures) ∙ c .if1 .taken)
 
 write-form-requires : tie.Need-write-form-requires
 write-form-requires c κs = search needs
@@ -22,9 +22,9 @@ returns-2 : tie.Need-returns-2
 returns-2 c =
     let call = c .before .before in
     let s = call .before .before .before .before .before .args in
-    let same = store-live (s .book) (s .buffer .now) (sym (call .before .before .before .has-pending .ensures)
+    let same = store-unmarked (s .book) (s .buffer .now) (sym (call .before .before .before .has-marked .ensures)
     ∙ call .before .before .if1 .left) in
     (call .write-form .ensures .0 ∙ same .0, call .write-form .ensures .1 ∙ same .1)
 
 pub store-spec : {M : Type 1} → statement M
-store-spec = tie.close (tie.spec has-pending-requires returns write-form-requires same-length returns-2)
+store-spec = tie.close (tie.spec has-marked-requires returns write-form-requires same-length returns-2)

@@ -1,7 +1,7 @@
 use Rattle.book_text.proofs.LineLaws.{single-lost, single-more, single-found}
 use borrow.Author.Needs.{needs}
-use Rattle.book_text.proofs.lines.single_at.Statement.{statement}
-use Rattle.book_text.proofs.lines.single_at.Tie as tie
+use Rattle.book_text.proofs.numbers.single_at.Statement.{statement}
+use Rattle.book_text.proofs.numbers.single_at.Tie as tie
 
 field-requires : tie.Need-field-requires
 field-requires c κs = search needs

@@ -1,7 +1,7 @@
 use Rattle.book_text.proofs.LineLaws.{pair-lost, pair-more, pair-found}
 use borrow.Author.Needs.{needs}
-use Rattle.book_text.proofs.lines.pair_at.Statement.{statement}
-use Rattle.book_text.proofs.lines.pair_at.Tie as tie
+use Rattle.book_text.proofs.numbers.pair_at.Statement.{statement}
+use Rattle.book_text.proofs.numbers.pair_at.Tie as tie
 
 line-requires : tie.Need-line-requires
 line-requires c κs = search needs
