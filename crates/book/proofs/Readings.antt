@@ -75,7 +75,7 @@ module _ (crew : ℕ) where
           later (j + 1) ∙ sym (ap (λ (v : Bool). showFound (cond v (Found j c) (lookupIn (j + 1) (ordersIn crew cs) s)) r) p)
       go false p false q later = later j
 
-  -- the same of what is held: a circuit is held by one record at the most
+  -- the same of what is held: one record at the most holds a colour on a link
   none-held : (cs : List Circuit) (link colour : ℕ) → ((i : ℕ) → i < length cs → holds (circuit cs i) link colour ≡ false)
       → holderIn desk (ordersIn crew cs) link colour ≡ holder.Free
   unfolding holderIn

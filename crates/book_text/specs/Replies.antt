@@ -84,16 +84,16 @@ unreadableText text =
 unfoldable pub helpText : List ℕ
 helpText =
     bytes "open N W                     begins a book for a ring of N nodes and W colours\n"
-    ++ (bytes "grant X Y WAY COLOUR [CREW]  enters a circuit between nodes X and Y, WAY 0 plain or 1 seam, and gives its order a serial\n"
+    ++ (bytes "grant X Y WAY COLOUR [CREW]  enters a circuit between X and Y for CREW, WAY 0 plain or 1 seam, and gives its order a serial\n"
     ++ (bytes "preview LINE, ..             the serials that up to 16 grants would get, each LINE as X Y WAY COLOUR [CREW]\n"
     ++ (bytes "remove SERIAL                removes an order; its colour stays held until the pull is confirmed\n"
     ++ (bytes "confirm SERIAL               confirms that a removed order's patch is pulled, and frees its colour\n"
-    ++ (bytes "show SERIAL [CREW]           the circuit of an order: its ends, P (plain) or S (seam), its colour\n"
-    ++ (bytes "holder LINK COLOUR [CREW]    the order that has the colour on the link\n"
+    ++ (bytes "show SERIAL [CREW]           the circuit of an order that CREW may read: its ends, P (plain) or S (seam), its colour\n"
+    ++ (bytes "holder LINK COLOUR [CREW]    the order that has the colour on the link, if CREW may read it\n"
     ++ (bytes "count                        how many orders are live, and how many were granted so far\n"
     ++ (bytes "list                         every live order with its circuit\n"
     ++ (bytes "pending                      every removed order whose pull is not yet confirmed, with its circuit\n"
-    ++ bytes "help                         these lines\n")))))))))
+    ++ bytes "help                         these lines; CREW is 0 to 999, and 0, the desk, where it is left out\n")))))))))
 
 -- the answer to a line that asks nothing of the book, as it was heard
 abbrev pub asideText : List ℕ → Aside → List ℕ

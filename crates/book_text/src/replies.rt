@@ -216,16 +216,16 @@ fn put_aside(out: &mut [u8], aside: Aside, text: &[u8]) -> usize
             out,
             0,
             b"open N W                     begins a book for a ring of N nodes and W colours\n\
-grant X Y WAY COLOUR [CREW]  enters a circuit between nodes X and Y, WAY 0 plain or 1 seam, and gives its order a serial\n\
+grant X Y WAY COLOUR [CREW]  enters a circuit between X and Y for CREW, WAY 0 plain or 1 seam, and gives its order a serial\n\
 preview LINE, ..             the serials that up to 16 grants would get, each LINE as X Y WAY COLOUR [CREW]\n\
 remove SERIAL                removes an order; its colour stays held until the pull is confirmed\n\
 confirm SERIAL               confirms that a removed order's patch is pulled, and frees its colour\n\
-show SERIAL [CREW]           the circuit of an order: its ends, P (plain) or S (seam), its colour\n\
-holder LINK COLOUR [CREW]    the order that has the colour on the link\n\
+show SERIAL [CREW]           the circuit of an order that CREW may read: its ends, P (plain) or S (seam), its colour\n\
+holder LINK COLOUR [CREW]    the order that has the colour on the link, if CREW may read it\n\
 count                        how many orders are live, and how many were granted so far\n\
 list                         every live order with its circuit\n\
 pending                      every removed order whose pull is not yet confirmed, with its circuit\n\
-help                         these lines\n",
+help                         these lines; CREW is 0 to 999, and 0, the desk, where it is left out\n",
         ),
         Aside::Nothing => 0,
         Aside::Unreadable => put_unreadable(out, text),

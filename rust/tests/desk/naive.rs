@@ -26,16 +26,16 @@ const WITH_CREW: [&str; 3] = ["grant", "show", "holder"];
 /// What `help` prints.
 pub const HELP: &str = "\
 open N W                     begins a book for a ring of N nodes and W colours
-grant X Y WAY COLOUR [CREW]  enters a circuit between nodes X and Y, WAY 0 plain or 1 seam, and gives its order a serial
+grant X Y WAY COLOUR [CREW]  enters a circuit between X and Y for CREW, WAY 0 plain or 1 seam, and gives its order a serial
 preview LINE, ..             the serials that up to 16 grants would get, each LINE as X Y WAY COLOUR [CREW]
 remove SERIAL                removes an order; its colour stays held until the pull is confirmed
 confirm SERIAL               confirms that a removed order's patch is pulled, and frees its colour
-show SERIAL [CREW]           the circuit of an order: its ends, P (plain) or S (seam), its colour
-holder LINK COLOUR [CREW]    the order that has the colour on the link
+show SERIAL [CREW]           the circuit of an order that CREW may read: its ends, P (plain) or S (seam), its colour
+holder LINK COLOUR [CREW]    the order that has the colour on the link, if CREW may read it
 count                        how many orders are live, and how many were granted so far
 list                         every live order with its circuit
 pending                      every removed order whose pull is not yet confirmed, with its circuit
-help                         these lines
+help                         these lines; CREW is 0 to 999, and 0, the desk, where it is left out
 ";
 
 pub const NO_BOOK: &str = "error there is no book yet (open N W begins one)\n";
