@@ -121,15 +121,23 @@ static void lapse(uint8_t *form)
     form[511] = (uint8_t)(check / 256);
 }
 
+/* A book of 4 nodes and 1 colour in 1,024 bytes: order 1 is {0,2} plain, and of order 2 it has no record. */
+static void lapsed_book(uint8_t *buffer)
+{
+    uint16_t values[2] = {0};
+
+    expect("open", tarziloen_book_open(4, 1, buffer, TARZILOEN_BOOK_BYTES, values, 2), 0);
+    expect("{0,2}", tarziloen_book_grant(buffer, TARZILOEN_BOOK_BYTES, 512, 0, 2, 0, 0, 0, values, 2), 0);
+    lapse(buffer);
+}
+
 static void removal(void)
 {
     uint8_t buffer[TARZILOEN_BOOK_BYTES] = {0};
     uint8_t before[TARZILOEN_BOOK_BYTES];
     uint16_t values[2] = {0};
 
-    expect("open", tarziloen_book_open(4, 1, buffer, sizeof buffer, values, 2), 0);
-    expect("{0,2}", tarziloen_book_grant(buffer, sizeof buffer, 512, 0, 2, 0, 0, 0, values, 2), 0);
-    lapse(buffer);
+    lapsed_book(buffer);
     memcpy(before, buffer, sizeof buffer);
     values[0] = 7;
     expect("remove 0", tarziloen_book_remove(buffer, sizeof buffer, 1024, 0, values, 2), 14);
@@ -160,9 +168,7 @@ static void crews(void)
     uint8_t before[TARZILOEN_BOOK_BYTES];
     uint16_t values[4] = {0};
 
-    expect("open", tarziloen_book_open(4, 1, buffer, sizeof buffer, values, 4), 0);
-    expect("{0,2}", tarziloen_book_grant(buffer, sizeof buffer, 512, 0, 2, 0, 0, 0, values, 4), 0);
-    lapse(buffer);
+    lapsed_book(buffer);
     memcpy(before, buffer, sizeof buffer);
     values[0] = 7;
     expect("{2,3} to 1", tarziloen_book_grant(buffer, sizeof buffer, 1024, 2, 3, 0, 0, 1, values, 4), 25);

@@ -109,7 +109,7 @@ free-or-held (c ∷ cs) link colour = go (holds c link colour) (free-or-held cs 
     go false r = r
 
 -- no circuit holds it
-none-holds : (cs : List Circuit) (link colour : ℕ) → ((i : ℕ) → i < length cs → holds (circuit cs i) link colour ≡ false)
+pub none-holds : (cs : List Circuit) (link colour : ℕ) → ((i : ℕ) → i < length cs → holds (circuit cs i) link colour ≡ false)
     → holderIn desk cs link colour ≡ Free
 unfolding holderIn
 none-holds [] link colour f = refl

@@ -1,5 +1,5 @@
 -- What the crews read: the desk as before, another crew by its own orders and by what is held.
-use Prim.Native.Nat.{ℕ, suc, _+_, _<_}
+use Prim.Native.Nat.{ℕ, zero, suc, _+_, _<_}
 use mathlib.Core.Path.{_≡_, refl, sym, _∙_, ap}
 use mathlib.Core.Bool.{Bool, true, false, cond, _||_}
 use mathlib.Core.List.{List, [], _∷_}
@@ -27,6 +27,7 @@ use Rattle.book.specs.Grants.{heldIn}
 use Rattle.book.specs.Orders.{neverGiven, lookupIn, lookup, showFound, shown, ownFound, ownShown, showUnless, shownTo}
 use Rattle.book.specs.Holders.{toldTo, holderIn, holderVerdict, holderUnless, heldBy, heldFor}
 use Rattle.book.specs.Isolation.{DeskReads, AlikeFor, Isolation}
+use Rattle.book.proofs.Holding.{none-holds}
 use Rattle.book.proofs.StandingChanges.{given-not}
 
 pub desk-reads : (b : Book) → DeskReads b
@@ -35,18 +36,29 @@ desk-reads b = record { orders = λ serial. refl; holders = λ link colour. refl
 
 -- ---- a crew's orders stand for the records
 
+lookup-none : (cs : List Circuit) (j s : ℕ) → ((i : ℕ) → i < length cs → eqb (circuit cs i .serial) s ≡ false) → lookupIn j cs s ≡ Missing
+unfolding lookupIn
+lookup-none [] j s f = refl
+lookup-none (c ∷ cs) j s f =
+    ap (λ (t : Bool). cond t (Found j c) (lookupIn (j + 1) cs s)) (f 0 (omega arith))
+    ∙ lookup-none cs (j + 1) s (λ i h. f (suc i) (omega arith))
+
 module _ (crew : ℕ) where
-  -- what none of the records has, none of the orders has
+  -- what is so of every record is so of every order of the crew
+  orders-all : (P : Circuit → Type 0) (cs : List Circuit) → ((i : ℕ) → i < length cs → P (circuit cs i)) → (i : ℕ)
+      → i < length (ordersIn crew cs) → P (circuit (ordersIn crew cs) i)
+  orders-all P [] f i h = absurd (omega arith)
+  orders-all P (c ∷ cs) f i h = go (isOwn crew c) (orders-all P cs (λ j k. f (suc j) (omega arith))) i h
+    where
+      go : (t : Bool) → ((i : ℕ) → i < length (ordersIn crew cs) → P (circuit (ordersIn crew cs) i)) → (i : ℕ)
+          → i < length (cond t (c ∷ ordersIn crew cs) (ordersIn crew cs)) → P (circuit (cond t (c ∷ ordersIn crew cs) (ordersIn crew cs)) i)
+      go true later zero k = f 0 (omega arith)
+      go true later (suc j) k = later j (omega arith)
+      go false later j k = later j k
+
   none-own : (cs : List Circuit) (j s : ℕ) → ((i : ℕ) → i < length cs → eqb (circuit cs i .serial) s ≡ false)
       → lookupIn j (ordersIn crew cs) s ≡ Missing
-  unfolding lookupIn
-  none-own [] j s f = refl
-  none-own (c ∷ cs) j s f = go (isOwn crew c) (λ k. none-own cs k s (λ i h. f (suc i) (omega arith)))
-    where
-      go : (t : Bool) → ((k : ℕ) → lookupIn k (ordersIn crew cs) s ≡ Missing)
-          → lookupIn j (cond t (c ∷ ordersIn crew cs) (ordersIn crew cs)) s ≡ Missing
-      go true later = ap (λ (t : Bool). cond t (Found j c) (lookupIn (j + 1) (ordersIn crew cs) s)) (f 0 (omega arith)) ∙ later (j + 1)
-      go false later = later j
+  none-own cs j s f = lookup-none (ordersIn crew cs) j s (orders-all (λ c. eqb (c .serial) s ≡ false) cs f)
 
   -- serials rise, so that behind a record that is not the crew's own there is none of its serial
   own-lookup : (cs : List Circuit) (i j s : ℕ) (r : Refusal)
@@ -75,19 +87,6 @@ module _ (crew : ℕ) where
           later (j + 1) ∙ sym (ap (λ (v : Bool). showFound (cond v (Found j c) (lookupIn (j + 1) (ordersIn crew cs) s)) r) p)
       go false p false q later = later j
 
-  -- the same of what is held: one record at the most holds a colour on a link
-  none-held : (cs : List Circuit) (link colour : ℕ) → ((i : ℕ) → i < length cs → holds (circuit cs i) link colour ≡ false)
-      → holderIn desk (ordersIn crew cs) link colour ≡ holder.Free
-  unfolding holderIn
-  none-held [] link colour f = refl
-  none-held (c ∷ cs) link colour f = go (isOwn crew c) (none-held cs link colour (λ i h. f (suc i) (omega arith)))
-    where
-      go : (t : Bool) → holderIn desk (ordersIn crew cs) link colour ≡ holder.Free
-          → holderIn desk (cond t (c ∷ ordersIn crew cs) (ordersIn crew cs)) link colour ≡ holder.Free
-      go true later =
-          ap (λ (t : Bool). cond t (toldTo desk c) (holderIn desk (ordersIn crew cs) link colour)) (f 0 (omega arith)) ∙ later
-      go false later = later
-
   -- the crew's order that holds, or else whether anything does
   abbrev learnt : HolderAnswer → Bool → HolderAnswer
   learnt holder.Free held = cond held holder.Held holder.Free
@@ -95,6 +94,7 @@ module _ (crew : ℕ) where
   learnt (holder.HeldBy s) held = holder.HeldBy s
   learnt (holder.Refused r) held = holder.Refused r
 
+  -- one record at the most holds a colour on a link, so that behind one that is not the crew's own no order of it does
   own-holder : (cs : List Circuit) (link colour : ℕ) → eqb crew desk ≡ false
       → ((i j : ℕ) → i < j → j < length cs → holds (circuit cs i) link colour ≡ true → holds (circuit cs j) link colour ≡ false)
       → holderIn crew cs link colour ≡ learnt (holderIn desk (ordersIn crew cs) link colour) (heldIn cs link colour)
@@ -118,7 +118,8 @@ module _ (crew : ℕ) where
           ∙ sym (ap (λ (v : Bool). learnt (cond v (toldTo desk c) (holderIn desk (ordersIn crew cs) link colour)) true) p)
       go true p false q later =
           told false q
-          ∙ sym (ap (λ (a : HolderAnswer). learnt a true) (none-held cs link colour (λ i h. apart 0 (suc i) (omega arith) (omega arith) p)))
+          ∙ sym (ap (λ (a : HolderAnswer). learnt a true) (none-holds (ordersIn crew cs) link colour
+          (orders-all (λ d. holds d link colour ≡ false) cs (λ i h. apart 0 (suc i) (omega arith) (omega arith) p))))
       go false p true q later =
           later
           ∙ sym (ap (λ (v : Bool). learnt (cond v (toldTo desk c) (holderIn desk (ordersIn crew cs) link colour)) (heldIn cs link colour))

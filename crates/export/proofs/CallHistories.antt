@@ -68,6 +68,11 @@ module _ (kept : Kept) (b : Book) (h : Holds kept b) where
       (λ i l named pending. storing-holds kept b h [] 0 _ (confirmation-valid b (held-valid kept b h) i l) refl)
       (λ r. refusing-holds kept b h 0 r _ b refl)
 
+  -- a question leaves the book as it is, whatever it is answered
+  same : (t : Bool) → Holds kept (cond t b b)
+  same true = h
+  same false = h
+
   -- the book after one call
   step : (call : Call) → Holds (keptAfter kept call) (cond (unstored (answerOf kept call)) b (after b call))
   unfolding grantCall removeCall confirmCall
@@ -84,15 +89,7 @@ module _ (kept : Kept) (b : Book) (h : Holds kept b) where
       (sym (changed-held kept b h (λ (d : Book). confirmOn d serial (kept .buffer))))
       (confirm-on-holds serial)
   step (Show serial crew) = same (unstored (answerOf kept (Show serial crew)))
-    where
-      same : (t : Bool) → Holds kept (cond t b b)
-      same true = h
-      same false = h
   step (Holder link colour crew) = same (unstored (answerOf kept (Holder link colour crew)))
-    where
-      same : (t : Bool) → Holds kept (cond t b b)
-      same true = h
-      same false = h
 
 -- the book after a list of calls
 run-one : (b : Book) (calls : List Call) (call : Call) (t : Bool)

@@ -2,9 +2,11 @@ use borrow.Author.Needs.{needs}
 use Prim.Native.Nat.{ℕ}
 use mathlib.Core.Path.{_≡_, sym, _∙_, ap}
 use native.Mathlib.Omega.{arith}
-use lib.ListN.{take}
+use lib.ListN.{length, take}
 use Rattle.ring.specs.declared.refusals.Verdict.{Verdict}
+use Rattle.ring.specs.declared.refusals.Verdict.the-variants.{Allowed}
 use Rattle.ring.specs.Refusals.{orElse}
+use Rattle.book.specs.Books.{recordsOf}
 use Rattle.book.specs.Crews.{crewVerdict}
 use Rattle.book.specs.Holders.{holderVerdict, heldFor}
 use Rattle.book.specs.Internal.Places.{holderPlace}
@@ -69,27 +71,34 @@ element-copy-out-circuit c = search needs
 told-to-requires : tie.Need-told-to-requires
 told-to-requires c κs = search needs
 
+-- no ground of 26, 16 and 10 is there
+allowed : (c : tie.After-enum-told) → asked (c .before .before) ≡ Allowed
+allowed c = sym (tested (c .before .before)) ∙ c .enum-told .given .1
+
+-- the place that the search gives is that of the first record that holds the colour
+place-is : (c : tie.After-holder-search)
+    → let s = c .before .before .before .before .before .before .before .before .before .before .args in
+    c .holder-search .result ≡ holderPlace 0 (take (length (recordsOf (s .t1))) (s .t1 .places)) (s .link) (s .colour)
+place-is c =
+    let count = c .before .before in
+    let s = count .before .before .before .before .before .before .before .before .args in
+    c .holder-search .ensures
+    ∙ ap (λ (m : ℕ). holderPlace 0 (take m (s .t1 .places)) (s .link) (s .colour)) (count .record-count .ensures .0)
+
 returns-2 : tie.Need-returns-2
 returns-2 c =
     let search = c .before .before .before in
-    let count = search .before .before in
-    let verdict = count .before .before .before in
-    let s = verdict .before .before .before .before .before .args in
-    c .told-to .ensures ∙ answer-held (s .crew) (s .t1) (s .link) (s .colour) (search .holder-search .result)
-    (sym (tested verdict) ∙ count .before .enum-told .given .1)
-    (search .holder-search .ensures
-    ∙ ap (λ (m : ℕ). holderPlace 0 (take m (s .t1 .places)) (s .link) (s .colour)) (count .record-count .ensures .0)) (omega arith)
+    let told = search .before .before .before in
+    let s = told .before .before .before .before .before .before .before .args in
+    c .told-to .ensures
+    ∙ answer-held (s .crew) (s .t1) (s .link) (s .colour) (search .holder-search .result) (allowed told) (place-is search) (omega arith)
 
 returns-3 : tie.Need-returns-3
 returns-3 c =
     let search = c .before in
-    let count = search .before .before in
-    let verdict = count .before .before .before in
-    let s = verdict .before .before .before .before .before .args in
-    answer-free (s .crew) (s .t1) (s .link) (s .colour) (search .holder-search .result)
-    (sym (tested verdict) ∙ count .before .enum-told .given .1)
-    (search .holder-search .ensures
-    ∙ ap (λ (m : ℕ). holderPlace 0 (take m (s .t1 .places)) (s .link) (s .colour)) (count .record-count .ensures .0)) (omega arith)
+    let told = search .before .before .before in
+    let s = told .before .before .before .before .before .before .before .args in
+    answer-free (s .crew) (s .t1) (s .link) (s .colour) (search .holder-search .result) (allowed told) (place-is search) (omega arith)
 
 pub holder-spec : {M : Type 1} → statement M
 holder-spec =
