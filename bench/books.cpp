@@ -1,5 +1,6 @@
 // Times the calls on a stored book, and the check of a plan, against the same done in plain C++: the stored form decoded with its
-// checks, the circuits in a vector, and the form encoded again. A preview is timed against the same grants, made one after another.
+// checks, the records in a vector, and the form encoded again. A preview is timed against the same grants, made one after another, and
+// load and store of the stored form against those of the old form, which has no states and crews.
 #include "lists.hpp"
 #include "tarziloen.h"
 #include <chrono>
@@ -11,12 +12,12 @@ using Clock = std::chrono::steady_clock;
 using Bytes = std::vector<uint8_t>;
 
 struct Circuit {
-    uint16_t serial, a, b, fate;
+    uint16_t serial, a, b, fate, crew, state;
 };
 
 struct Book {
     uint16_t n, w, grants;
-    std::vector<Circuit> live;
+    std::vector<Circuit> records;
 };
 
 static uint16_t get(const uint8_t* p) { return uint16_t(p[0] | p[1] << 8); }
@@ -37,27 +38,30 @@ static Book decode(const Bytes& bytes) {
         if (get(block + 508) != k || get(block + 510) != check_of(block)) std::exit(1);
     }
     Book book{get(&bytes[0]), get(&bytes[2]), get(&bytes[4]), {}};
-    unsigned live = get(&bytes[6]);
-    for (unsigned i = 0; i < live; i++) {
-        const uint8_t* p = &bytes[512 * (1 + i / 63) + 8 * (i % 63)];
-        book.live.push_back({get(p), get(p + 2), get(p + 4), get(p + 6)});
+    unsigned count = get(&bytes[6]);
+    for (unsigned i = 0; i < count; i++) {
+        const uint8_t* p = &bytes[512 * (1 + i / 42) + 12 * (i % 42)];
+        book.records.push_back({get(p), get(p + 2), get(p + 4), get(p + 6), get(p + 8), get(p + 10)});
     }
     return book;
 }
 
 static Bytes encode(const Book& book) {
-    Bytes bytes(512 * (1 + (book.live.size() + 62) / 63));
+    Bytes bytes(512 * (1 + (book.records.size() + 41) / 42));
     put(&bytes[0], book.n);
     put(&bytes[2], book.w);
     put(&bytes[4], book.grants);
-    put(&bytes[6], unsigned(book.live.size()));
-    for (size_t i = 0; i < book.live.size(); i++) {
-        uint8_t* p = &bytes[512 * (1 + i / 63) + 8 * (i % 63)];
-        const Circuit& c = book.live[i];
+    put(&bytes[6], unsigned(book.records.size()));
+    put(&bytes[8], 2);
+    for (size_t i = 0; i < book.records.size(); i++) {
+        uint8_t* p = &bytes[512 * (1 + i / 42) + 12 * (i % 42)];
+        const Circuit& c = book.records[i];
         put(p, c.serial);
         put(p + 2, c.a);
         put(p + 4, c.b);
         put(p + 6, c.fate);
+        put(p + 8, c.crew);
+        put(p + 10, c.state);
     }
     for (size_t k = 0; k * 512 < bytes.size(); k++) {
         put(&bytes[k * 512 + 508], unsigned(k));
@@ -79,7 +83,7 @@ static bool share(unsigned n, const Circuit& c, const Circuit& d) {
 }
 
 static int holder(const Book& book, unsigned link, unsigned colour) {
-    for (const Circuit& c : book.live)
+    for (const Circuit& c : book.records)
         if (unsigned(c.fate - 1) / 2 == colour && uses(c.fate, c.a, c.b, link)) return c.serial;
     return 0;
 }
@@ -91,7 +95,7 @@ static int served(unsigned n, unsigned w, const Ends& ends, const uint16_t* tabl
     for (size_t i = 0; i < m; i++) {
         uint16_t x = ends[2 * i], y = ends[2 * i + 1];
         if (table[i] > 2 * w) return -1;
-        all[i] = {0, std::min(x, y), std::max(x, y), table[i]};
+        all[i] = {0, std::min(x, y), std::max(x, y), table[i], 0, 0};
         count += table[i] != 0;
     }
     for (size_t i = 0; i < m; i++)
@@ -115,9 +119,9 @@ static void line(const char* name, size_t circuits, double ours, double plain) {
     std::printf("%-24s %8zu %10.2f %10.2f %7.2f\n", name, circuits, ours, plain, ours / plain);
 }
 
-// A book with so many live circuits, each on links of its own colour.
+// A book with so many live circuits of the desk, each on links of its own colour.
 static Bytes book_of(size_t circuits) {
-    Bytes buffer(5120);
+    Bytes buffer(TARZILOEN_BOOK_BYTES);
     uint16_t values[4];
     if (tarziloen_book_open(256, 128, buffer.data(), buffer.size(), values, 4) != 0) std::exit(1);
     size_t length = values[0];
@@ -130,53 +134,102 @@ static Bytes book_of(size_t circuits) {
     return buffer;
 }
 
-static void time_book(size_t circuits) {
+// A change of a stored book, which is copied to a buffer first.
+template <class Call> static double change(const Bytes& stored, const Call& call) {
+    Bytes buffer(TARZILOEN_BOOK_BYTES);
+    return microseconds([&] {
+        std::memcpy(buffer.data(), stored.data(), stored.size());
+        if (call(buffer.data(), buffer.size(), stored.size()) != 0) std::exit(1);
+    });
+}
+
+// The same change by the peer: `act` is done to the decoded book.
+template <class Act> static double peer_change(const Bytes& stored, const Act& act) {
+    Bytes buffer(TARZILOEN_BOOK_BYTES);
+    return microseconds([&] {
+        Book book = decode(stored);
+        act(book);
+        Bytes bytes = encode(book);
+        std::memcpy(buffer.data(), bytes.data(), bytes.size());
+    });
+}
+
+static void time_questions(size_t circuits) {
     const Bytes stored = book_of(circuits);
     uint16_t values[4];
     uint16_t some = circuits == 0 ? 0 : uint16_t(circuits / 2 + 1);
-    Bytes buffer(5120);
-    std::memcpy(buffer.data(), stored.data(), stored.size());
     line("load and show", circuits,
          microseconds([&] { tarziloen_book_show(stored.data(), stored.size(), some, 0, values, 4); }),
          microseconds([&] {
              Book book = decode(stored);
-             for (const Circuit& c : book.live)
+             for (const Circuit& c : book.records)
                  if (c.serial == some) values[0] = c.a;
          }));
     line("load and holder", circuits,
          microseconds([&] { tarziloen_book_holder(stored.data(), stored.size(), 250, 5, 0, values, 4); }),
          microseconds([&] { values[0] = uint16_t(holder(decode(stored), 250, 5)); }));
+}
+
+static void time_grant(size_t circuits) {
+    uint16_t values[4];
+    const Bytes stored = book_of(circuits);
     line("load, grant and store", circuits,
-         microseconds([&] {
-             std::memcpy(buffer.data(), stored.data(), stored.size());
-             if (tarziloen_book_grant(buffer.data(), buffer.size(), stored.size(), 250, 255, 0, 127, 0, values, 4) != 0) std::exit(1);
+         change(stored, [&](uint8_t* buffer, size_t room, size_t length) {
+             return tarziloen_book_grant(buffer, room, length, 250, 255, 0, 127, 7, values, 4);
          }),
-         microseconds([&] {
-             Book book = decode(stored);
-             Circuit next{uint16_t(book.grants + 1), 250, 255, 1 + 2 * 127};
-             for (const Circuit& c : book.live)
+         peer_change(stored, [&](Book& book) {
+             Circuit next{uint16_t(book.grants + 1), 250, 255, 1 + 2 * 127, 7, 0};
+             for (const Circuit& c : book.records)
                  if ((c.fate - 1) / 2 == 127 && share(256, c, next)) std::exit(1);
-             book.live.push_back(next);
+             book.records.push_back(next);
              book.grants++;
-             Bytes bytes = encode(book);
-             std::memcpy(buffer.data(), bytes.data(), bytes.size());
          }));
-    if (circuits == 0) return;
-    std::memcpy(buffer.data(), stored.data(), stored.size());
-    // A pending record has no stored form: the removal is refused by 25, behind its own grounds.
-    line("load and remove (25)", circuits,
-         microseconds([&] {
-             if (tarziloen_book_remove(buffer.data(), buffer.size(), stored.size(), some, values, 4) != 25) std::exit(1);
+}
+
+static void time_removal(size_t circuits) {
+    uint16_t values[4], some = uint16_t(circuits / 2 + 1);
+    Bytes stored = book_of(circuits);
+    line("load, remove and store", circuits,
+         change(stored, [&](uint8_t* buffer, size_t room, size_t length) {
+             return tarziloen_book_remove(buffer, room, length, some, values, 4);
          }),
-         microseconds([&] {
-             Book book = decode(stored);
-             for (Circuit& c : book.live)
-                 if (c.serial == some) {
-                     c.fate = 0;
-                     break;
-                 }
-             values[0] = book.live.back().fate;
+         peer_change(stored, [&](Book& book) {
+             for (Circuit& c : book.records)
+                 if (c.serial == some) c.state = 1;
          }));
+    if (tarziloen_book_remove(stored.data(), stored.size(), stored.size(), some, values, 4) != 0) std::exit(1);
+    line("load, confirm and store", circuits,
+         change(stored, [&](uint8_t* buffer, size_t room, size_t length) {
+             return tarziloen_book_confirm(buffer, room, length, some, values, 4);
+         }),
+         peer_change(stored, [&](Book& book) {
+             for (size_t i = 0; i < book.records.size(); i++)
+                 if (book.records[i].serial == some) book.records.erase(book.records.begin() + long(i));
+         }));
+}
+
+// A conversion loads the one form and stores the other; into a buffer without room it loads alone, and is refused by 17. So the time of a
+// store is that of a conversion less that of its load.
+static void time_forms(size_t circuits) {
+    const Bytes stored = book_of(circuits);
+    Bytes old(TARZILOEN_OLD_BOOK_BYTES), buffer(TARZILOEN_BOOK_BYTES);
+    uint16_t values[1];
+    auto there = [&](size_t room) { return tarziloen_book_convert(old.data(), old.size(), buffer.data(), room, values, 1); };
+    auto back = [&](size_t room) { return tarziloen_book_convert_back(stored.data(), stored.size(), buffer.data(), room, values, 1); };
+    if (back(buffer.size()) != 0) std::exit(1);
+    old.assign(buffer.data(), buffer.data() + values[0]);
+    if (there(buffer.size()) != 0 || Bytes(buffer.data(), buffer.data() + values[0]) != stored) std::exit(1);
+    double load = 1e99, old_load = 1e99, to_old = 1e99, from_old = 1e99;
+    for (int round = 0; round < 10; round++) {
+        old_load = std::min(old_load, microseconds([&] { if (there(0) != 17) std::exit(1); }));
+        from_old = std::min(from_old, microseconds([&] { if (there(buffer.size()) != 0) std::exit(1); }));
+        load = std::min(load, microseconds([&] { if (back(0) != 17) std::exit(1); }));
+        to_old = std::min(to_old, microseconds([&] { if (back(buffer.size()) != 0) std::exit(1); }));
+    }
+    double store = from_old - old_load, old_store = to_old - load;
+    line("load", circuits, load, old_load);
+    line("store", circuits, store, old_store);
+    line("load and store", circuits, load + store, old_load + old_store);
 }
 
 static void time_preview(size_t circuits) {
@@ -186,7 +239,7 @@ static void time_preview(size_t circuits) {
         const uint16_t asked[5] = {250, 255, 0, i, 0};
         std::memcpy(lines + 5 * i, asked, sizeof asked);
     }
-    Bytes buffer(5120);
+    Bytes buffer(TARZILOEN_BOOK_BYTES);
     double grants = microseconds([&] {
         size_t length = stored.size();
         std::memcpy(buffer.data(), stored.data(), length);
@@ -215,8 +268,14 @@ static void time_check(int m) {
 
 int main() {
     std::printf("%-24s %8s %10s %10s %7s\n", "call", "circuits", "ours us", "C++ us", "ratio");
-    for (size_t circuits : {size_t(0), size_t(256), size_t(511)}) time_book(circuits);
+    for (size_t circuits : {size_t(0), size_t(256), size_t(511)}) {
+        time_questions(circuits);
+        time_grant(circuits);
+        if (circuits > 0) time_removal(circuits);
+    }
     for (int m : {64, 128, 256, 512}) time_check(m);
     std::printf("%-24s %8s %10s %10s %7s\n", "call", "circuits", "ours us", "grants us", "ratio");
     for (size_t circuits : {size_t(0), size_t(256), size_t(496)}) time_preview(circuits);
+    std::printf("%-24s %8s %10s %10s %7s\n", "form", "circuits", "new us", "old us", "ratio");
+    for (size_t circuits : {size_t(0), size_t(1), size_t(64), size_t(256), size_t(512)}) time_forms(circuits);
 }

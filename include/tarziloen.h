@@ -38,8 +38,8 @@
  *   15  the order was removed
  *   16  the link is n or more
  *   17  the buffer is shorter than the stored form
- *   18  the length is 0, not a multiple of 512, above 5,120, or above the
- *       buffer's own
+ *   18  the length is 0, not a multiple of 512, above 7,168 (5,120 in the old
+ *       form), or above the buffer's own
  *   19  a block has a wrong number or check
  *   20  the bytes break the stored form, a limit, the rising serials from 1
  *       up to the grants so far, or feasibility
@@ -49,9 +49,12 @@
  *       five; in tarziloen_book_preview
  *   23  the circuit is live; in tarziloen_book_confirm
  *   24  the order was already confirmed; in tarziloen_book_confirm
- *   25  a record that is pending or whose crew is not 0 cannot be stored; in
- *       tarziloen_book_grant and tarziloen_book_remove
+ *   25  given by no function here: a record that is pending or whose crew is
+ *       not 0 has no old form
  *   26  the crew is above 999
+ *   27  a record that is pending or whose crew is not 0 cannot be converted
+ *       back; in tarziloen_book_convert_back
+ *   28  the revision is below the lowest; in tarziloen_book_load
  *
  * A refused call changes neither plan table nor buffer. The values of a call go
  * to the first entries of `values`; where it has fewer, as many as fit are
@@ -68,8 +71,9 @@
 extern "C" {
 #endif
 
-/* The longest stored form of a book, in bytes. */
-#define TARZILOEN_BOOK_BYTES 5120
+/* The longest stored form of a book, in bytes, and the longest old form. */
+#define TARZILOEN_BOOK_BYTES 7168
+#define TARZILOEN_OLD_BOOK_BYTES 5120
 
 /* The most values of tarziloen_book_preview, those of 16 serials. */
 #define TARZILOEN_PREVIEW_VALUES 19
@@ -119,12 +123,14 @@ size_t tarziloen_answer(const uint8_t *text, size_t text_length,
 
 /*
  * A book lies in a buffer of the caller's, in its stored form, which has a
- * multiple of 512 and at most 5,120 bytes. A change reads it there, acts, and
+ * multiple of 512 and at most 7,168 bytes. A change reads it there, acts, and
  * writes it back; the bytes behind the stored form stay as they are. A buffer
  * of TARZILOEN_BOOK_BYTES has room for every book.
  *
  * A record of a book is live or pending. A removal leaves it pending: its place
- * and its colour stay held until the pull of its patch is confirmed.
+ * and its colour stay held until the pull of its patch is confirmed. To the
+ * desk a removed order is 15, confirmed or not; the confirmation of one that
+ * has no record any more is 24.
  *
  * A record has a crew, 0 to 999, and 0 is the desk. A grant names the crew of
  * the circuit, and a question the crew that asks. The desk reads every order.
@@ -133,13 +139,16 @@ size_t tarziloen_answer(const uint8_t *text, size_t text_length,
  * one of its own too, it learns only that it is held. Removals and
  * confirmations are the desk's.
  *
- * The stored form has no room for states and crews, so every record in a buffer
- * is live and has crew 0. A removal that the book would accept is refused by 25
- * and changes nothing, and so is a grant to a crew other than the desk; a
- * confirmation finds nothing to free, and a crew other than the desk no order
- * of its own. A serial that was given and has no record in the stored form, as
- * in forms from the time when a removal freed the colour at once, is answered
- * to the desk by 15, and its confirmation by 24.
+ * A book has a revision: twice the grants so far less the live orders. It rises
+ * by one with each grant and each removal, and stays with a confirmation. Of
+ * the files of one book, from its opening on and with no earlier file put in
+ * its place, tarziloen_book_load takes none that shows an order which was
+ * removed by the revision that it is told. Every other call takes a book of any
+ * revision.
+ *
+ * The old form has no room for states and crews, and at most 5,120 bytes: in it
+ * every record is live and has crew 0. Two calls convert a book from it and
+ * back to it. In every other call, bytes in the old form are 20.
  */
 
 /*
@@ -153,15 +162,13 @@ uint16_t tarziloen_book_open(uint16_t n, uint16_t w,
                              uint16_t *values, size_t values_length);
 
 /*
- * Grants a circuit between the nodes x and y, in any order, to a crew. The
- * stored form has no room for a crew other than the desk, so that such a grant
- * is refused by 25 if by nothing before.
+ * Grants a circuit between the nodes x and y, in any order, to a crew.
  *
  * In: the first `length` bytes of `buffer`, the book; the way, 0 plain or
  * 1 seam; the colour; the crew. Out: `buffer`, the book with the circuit.
  * Values: the serial of the order, which rises from 1 and is never given twice;
  * the length of the stored form.
- * Refused: 18, 19, 20, then 4, 5, 9, 10, 26, 11, 12, 13, then 25, 17.
+ * Refused: 18, 19, 20, then 4, 5, 9, 10, 26, 11, 12, 13, then 17.
  */
 uint16_t tarziloen_book_grant(uint8_t *buffer, size_t buffer_length,
                               size_t length,
@@ -170,14 +177,12 @@ uint16_t tarziloen_book_grant(uint8_t *buffer, size_t buffer_length,
                               uint16_t *values, size_t values_length);
 
 /*
- * Removes an order, which leaves its record pending. The stored form cannot
- * hold that, so the removal of a live order is refused by 25, and the order
- * stays live.
+ * Removes an order, which leaves its record pending.
  *
  * In: the first `length` bytes of `buffer`, the book; the serial of the order.
  * Out: `buffer`, the book with the order pending. Values: the length of the
- * stored form. Neither is ever given, since one of the grounds always holds.
- * Refused: 18, 19, 20, then 14, 15, then 25.
+ * stored form, which is what it was.
+ * Refused: 18, 19, 20, then 14, 15.
  */
 uint16_t tarziloen_book_remove(uint8_t *buffer, size_t buffer_length,
                                size_t length,
@@ -190,8 +195,8 @@ uint16_t tarziloen_book_remove(uint8_t *buffer, size_t buffer_length,
  *
  * In: the first `length` bytes of `buffer`, the book; the serial of the order.
  * Out: `buffer`, the book without it. Values: the length of the stored form.
- * Neither is ever given, since no record in the stored form is pending.
- * Refused: 18, 19, 20, then 14, then 23 for a live order, 24 for every other.
+ * Refused: 18, 19, 20, then 14, 23 for a live order, 24 for one that is
+ * confirmed already.
  */
 uint16_t tarziloen_book_confirm(uint8_t *buffer, size_t buffer_length,
                                 size_t length,
@@ -226,8 +231,7 @@ uint16_t tarziloen_book_holder(const uint8_t *bytes, size_t bytes_length,
 /*
  * Tries 1 to 16 grants: says what they would answer on a copy of the book, one
  * after another, up to the first that would be turned down; later lines are not
- * looked at. The book stays as it is, and the copy is not stored: a line to any
- * crew is tried.
+ * looked at. The book stays as it is.
  *
  * In: `bytes`, the book, no byte more; `lines`, five entries for each line in
  * turn, as in tarziloen_book_grant: x, y, way (0 plain, 1 seam), colour, crew.
@@ -241,6 +245,43 @@ uint16_t tarziloen_book_holder(const uint8_t *bytes, size_t bytes_length,
 uint16_t tarziloen_book_preview(const uint8_t *bytes, size_t bytes_length,
                                 const uint16_t *lines, size_t lines_length,
                                 uint16_t *values, size_t values_length);
+
+/*
+ * Says whether bytes are a stored book of some revision or a later one.
+ *
+ * In: `bytes`, the book, no byte more; the lowest revision that is taken, where
+ * 0 takes every book. Values: the low 16 bits of the book's revision, then the
+ * rest of it, 0 or 1: the revision is the first plus 65,536 times the second.
+ * Refused: 18, 19, 20, then 28 for a revision below the lowest.
+ */
+uint16_t tarziloen_book_load(const uint8_t *bytes, size_t bytes_length,
+                             uint32_t lowest,
+                             uint16_t *values, size_t values_length);
+
+/*
+ * Converts a book from the old form.
+ *
+ * In: `bytes`, the book in the old form, no byte more. Out: `buffer`, the book,
+ * all of its records live and with crew 0. Values: the length of its stored
+ * form.
+ * Refused: 18, above 5,120 too, 19, 20, then 17.
+ */
+uint16_t tarziloen_book_convert(const uint8_t *bytes, size_t bytes_length,
+                                uint8_t *buffer, size_t buffer_length,
+                                uint16_t *values, size_t values_length);
+
+/*
+ * Converts a book back to the old form; a book that was converted from it gets
+ * the same bytes again. A buffer of TARZILOEN_OLD_BOOK_BYTES has room for every
+ * book.
+ *
+ * In: `bytes`, the book, no byte more. Out: `buffer`, the book in the old form.
+ * Values: its length.
+ * Refused: 18, 19, 20, then 27, 17.
+ */
+uint16_t tarziloen_book_convert_back(const uint8_t *bytes, size_t bytes_length,
+                                     uint8_t *buffer, size_t buffer_length,
+                                     uint16_t *values, size_t values_length);
 
 #ifdef __cplusplus
 }

@@ -1,8 +1,8 @@
 /*
- * Calls every function of tarziloen.h, on cases T1 and T5 of the rules, on T7 as
- * far as a stored form can hold it, for the desk and for other crews, on a
- * bundle and on the refusals of a book in a buffer; prints each answer that is
- * another one.
+ * Calls every function of tarziloen.h, on cases T1, T5 and T7 of the rules, for
+ * the desk and for other crews, on a bundle, on files of a book, on the old form
+ * and on the refusals of a book in a buffer; prints each answer that is another
+ * one.
  *
  * From the top folder, after `rt staticlib export`:
  *
@@ -94,107 +94,125 @@ static void book(void)
     expect("its serial", values[0], 2);
     memcpy(before, buffer, sizeof buffer);
     expect("{1,3}", tarziloen_book_grant(buffer, sizeof buffer, 1024, 1, 3, 0, 0, 0, values, 4), 11);
+    expect("confirm 1", tarziloen_book_confirm(buffer, sizeof buffer, 1024, 1, values, 4), 23);
     expect("same buffer", memcmp(buffer, before, sizeof buffer) == 0, 1);
-    expect("{0,2} seam", tarziloen_book_grant(buffer, sizeof buffer, 1024, 0, 2, 1, 0, 0, values, 4), 11);
-    expect("{0,3} seam", tarziloen_book_grant(buffer, sizeof buffer, 1024, 3, 0, 1, 0, 0, values, 4), 0);
-    expect("its serial", values[0], 3);
-    expect("show 4", tarziloen_book_show(buffer, 1024, 4, 0, values, 4), 14);
-    expect("show 2", tarziloen_book_show(buffer, 1024, 2, 0, values, 4), 0);
-    expect("a", values[0], 2);
-    expect("b", values[1], 3);
-    expect("way", values[2], 0);
-    expect("colour", values[3], 0);
-    expect("link 3", tarziloen_book_holder(buffer, 1024, 3, 0, 0, values, 4), 0);
+    expect("remove 1", tarziloen_book_remove(buffer, sizeof buffer, 1024, 1, values, 4), 0);
+    expect("same length", values[0], 1024);
+    expect("remove 1 again", tarziloen_book_remove(buffer, sizeof buffer, 1024, 1, values, 4), 15);
+    expect("{0,1} too early", tarziloen_book_grant(buffer, sizeof buffer, 1024, 0, 1, 0, 0, 0, values, 4), 11);
+    expect("link 0", tarziloen_book_holder(buffer, 1024, 0, 0, 0, values, 4), 0);
     expect("held by an order", values[0], 2);
-    expect("its holder", values[1], 3);
+    expect("which is pending", values[1], 1);
+    expect("confirm 1", tarziloen_book_confirm(buffer, sizeof buffer, 1024, 1, values, 4), 0);
+    expect("confirm 1 again", tarziloen_book_confirm(buffer, sizeof buffer, 1024, 1, values, 4), 24);
+    expect("confirm 3", tarziloen_book_confirm(buffer, sizeof buffer, 1024, 3, values, 4), 14);
+    expect("{0,2} seam", tarziloen_book_grant(buffer, sizeof buffer, 1024, 0, 2, 1, 0, 0, values, 4), 11);
+    expect("{0,1}", tarziloen_book_grant(buffer, sizeof buffer, 1024, 0, 1, 0, 0, 0, values, 4), 0);
+    expect("its serial", values[0], 3);
+    expect("show 1", tarziloen_book_show(buffer, 1024, 1, 0, values, 4), 15);
+    expect("show 4", tarziloen_book_show(buffer, 1024, 4, 0, values, 4), 14);
+    expect("link 1", tarziloen_book_holder(buffer, 1024, 1, 0, 0, values, 4), 0);
+    expect("free", values[0] + values[1], 0);
     expect("link 4", tarziloen_book_holder(buffer, 1024, 4, 0, 0, values, 4), 16);
     expect("colour 1", tarziloen_book_holder(buffer, 1024, 0, 1, 0, values, 4), 10);
 }
 
-/* Counts one grant more in a stored form, and puts its check right: the form has no record of that order. */
-static void lapse(uint8_t *form)
-{
-    unsigned check = (form[510] + 256u * form[511] + 5) % 65521;
-
-    form[4]++;
-    form[510] = (uint8_t)(check % 256);
-    form[511] = (uint8_t)(check / 256);
-}
-
-/* A book of 4 nodes and 1 colour in 1,024 bytes: order 1 is {0,2} plain, and of order 2 it has no record. */
-static void lapsed_book(uint8_t *buffer)
-{
-    uint16_t values[2] = {0};
-
-    expect("open", tarziloen_book_open(4, 1, buffer, TARZILOEN_BOOK_BYTES, values, 2), 0);
-    expect("{0,2}", tarziloen_book_grant(buffer, TARZILOEN_BOOK_BYTES, 512, 0, 2, 0, 0, 0, values, 2), 0);
-    lapse(buffer);
-}
-
-static void removal(void)
-{
-    uint8_t buffer[TARZILOEN_BOOK_BYTES] = {0};
-    uint8_t before[TARZILOEN_BOOK_BYTES];
-    uint16_t values[2] = {0};
-
-    lapsed_book(buffer);
-    memcpy(before, buffer, sizeof buffer);
-    values[0] = 7;
-    expect("remove 0", tarziloen_book_remove(buffer, sizeof buffer, 1024, 0, values, 2), 14);
-    expect("remove 3", tarziloen_book_remove(buffer, sizeof buffer, 1024, 3, values, 2), 14);
-    expect("remove 2", tarziloen_book_remove(buffer, sizeof buffer, 1024, 2, values, 2), 15);
-    expect("remove 1", tarziloen_book_remove(buffer, sizeof buffer, 1024, 1, values, 2), 25);
-    expect("remove 1 again", tarziloen_book_remove(buffer, sizeof buffer, 1024, 1, values, 2), 25);
-    expect("confirm 0", tarziloen_book_confirm(buffer, sizeof buffer, 1024, 0, values, 2), 14);
-    expect("confirm 3", tarziloen_book_confirm(buffer, sizeof buffer, 1024, 3, values, 2), 14);
-    expect("confirm 1", tarziloen_book_confirm(buffer, sizeof buffer, 1024, 1, values, 2), 23);
-    expect("confirm 2", tarziloen_book_confirm(buffer, sizeof buffer, 1024, 2, values, 2), 24);
-    expect("show 2", tarziloen_book_show(buffer, 1024, 2, 0, values, 2), 15);
-    expect("untouched values", values[0], 7);
-    expect("same buffer", memcmp(buffer, before, sizeof buffer) == 0, 1);
-    expect("link 0", tarziloen_book_holder(buffer, 1024, 0, 0, 0, values, 2), 0);
-    expect("held as before", values[1], 1);
-    expect("link 2", tarziloen_book_holder(buffer, 1024, 2, 0, 0, values, 2), 0);
-    expect("free", values[0], 0);
-    expect("no serial", values[1], 0);
-    expect("{2,3}", tarziloen_book_grant(buffer, sizeof buffer, 1024, 2, 3, 0, 0, 0, values, 2), 0);
-    expect("its serial", values[0], 3);
-}
-
-/* A grant to another crew than the desk has no stored form; what such a crew learns of the desk's orders, live and lapsed. */
+/* What a crew other than the desk learns of its own orders and of others, live and pending. */
 static void crews(void)
 {
     uint8_t buffer[TARZILOEN_BOOK_BYTES] = {0};
     uint8_t before[TARZILOEN_BOOK_BYTES];
     uint16_t values[4] = {0};
 
-    lapsed_book(buffer);
+    expect("open", tarziloen_book_open(4, 1, buffer, sizeof buffer, values, 4), 0);
+    expect("{0,2} to 999", tarziloen_book_grant(buffer, sizeof buffer, 512, 0, 2, 0, 0, 999, values, 4), 0);
+    expect("{2,3}", tarziloen_book_grant(buffer, sizeof buffer, 1024, 2, 3, 0, 0, 0, values, 4), 0);
     memcpy(before, buffer, sizeof buffer);
     values[0] = 7;
-    expect("{2,3} to 1", tarziloen_book_grant(buffer, sizeof buffer, 1024, 2, 3, 0, 0, 1, values, 4), 25);
-    expect("{2,3} to 999", tarziloen_book_grant(buffer, sizeof buffer, 1024, 2, 3, 0, 0, 999, values, 4), 25);
-    expect("{2,3} to 1000", tarziloen_book_grant(buffer, sizeof buffer, 1024, 2, 3, 0, 0, 1000, values, 4), 26);
+    expect("{3,0} to 1000", tarziloen_book_grant(buffer, sizeof buffer, 1024, 3, 0, 1, 0, 1000, values, 4), 26);
     expect("{1,3} to 999", tarziloen_book_grant(buffer, sizeof buffer, 1024, 1, 3, 0, 0, 999, values, 4), 11);
     expect("{1,3} to 65535", tarziloen_book_grant(buffer, sizeof buffer, 1024, 1, 3, 0, 0, 65535, values, 4), 26);
     expect("colour 1 to 1000", tarziloen_book_grant(buffer, sizeof buffer, 1024, 1, 3, 0, 1, 1000, values, 4), 10);
-    expect("show 1 to 1", tarziloen_book_show(buffer, 1024, 1, 1, values, 4), 14);
-    expect("show 2 to 1", tarziloen_book_show(buffer, 1024, 2, 1, values, 4), 14);
-    expect("show 3 to 1", tarziloen_book_show(buffer, 1024, 3, 1, values, 4), 14);
-    expect("show 1 to 1000", tarziloen_book_show(buffer, 1024, 1, 1000, values, 4), 26);
+    expect("show 2 to 999", tarziloen_book_show(buffer, 1024, 2, 999, values, 4), 14);
     expect("show 0 to 1000", tarziloen_book_show(buffer, 1024, 0, 1000, values, 4), 26);
-    expect("link 4 for 1000", tarziloen_book_holder(buffer, 1024, 4, 1, 1000, values, 4), 26);
     expect("link 4 for 999", tarziloen_book_holder(buffer, 1024, 4, 1, 999, values, 4), 16);
     expect("colour 1 for 999", tarziloen_book_holder(buffer, 1024, 3, 1, 999, values, 4), 10);
     expect("untouched values", values[0], 7);
     expect("same buffer", memcmp(buffer, before, sizeof buffer) == 0, 1);
     expect("link 1 for 999", tarziloen_book_holder(buffer, 1024, 1, 0, 999, values, 4), 0);
+    expect("held by its own", values[0], 2);
+    expect("which is 1", values[1], 1);
+    expect("link 2 for 999", tarziloen_book_holder(buffer, 1024, 2, 0, 999, values, 4), 0);
     expect("held", values[0], 1);
     expect("no serial", values[1], 0);
-    expect("link 2 for 999", tarziloen_book_holder(buffer, 1024, 2, 0, 999, values, 4), 0);
-    expect("free", values[0], 0);
-    expect("no serial", values[1], 0);
-    expect("{2,3}", tarziloen_book_grant(buffer, sizeof buffer, 1024, 2, 3, 0, 0, 0, values, 4), 0);
-    expect("its serial", values[0], 3);
+    expect("show 1 to 999", tarziloen_book_show(buffer, 1024, 1, 999, values, 4), 0);
+    expect("a", values[0], 0);
+    expect("b", values[1], 2);
+    expect("way and colour", values[2] + values[3], 0);
+    expect("remove 1", tarziloen_book_remove(buffer, sizeof buffer, 1024, 1, values, 4), 0);
+    expect("show 1 to 999", tarziloen_book_show(buffer, 1024, 1, 999, values, 4), 14);
+    expect("show 1", tarziloen_book_show(buffer, 1024, 1, 0, values, 4), 15);
+    expect("link 1 for 999", tarziloen_book_holder(buffer, 1024, 1, 0, 999, values, 4), 0);
+    expect("held", values[0], 1);
+}
+
+/* A file from before a removal, and those from behind it, under the revisions of both. */
+static void revisions(void)
+{
+    uint8_t buffer[TARZILOEN_BOOK_BYTES] = {0};
+    uint8_t early[1024];
+    uint16_t values[3] = {0, 0, 7};
+
+    expect("open", tarziloen_book_open(4, 1, buffer, sizeof buffer, values, 2), 0);
+    expect("{0,2}", tarziloen_book_grant(buffer, sizeof buffer, 512, 0, 2, 0, 0, 7, values, 2), 0);
+    memcpy(early, buffer, sizeof early);
+    expect("remove 1", tarziloen_book_remove(buffer, sizeof buffer, 1024, 1, values, 2), 0);
+    expect("the later file", tarziloen_book_load(buffer, 1024, 2, values, 3), 0);
+    expect("its revision", values[0] + 65536u * values[1], 2);
+    expect("no third value", values[2], 7);
+    expect("it is not 3", tarziloen_book_load(buffer, 1024, 3, values, 2), 28);
+    expect("nor 65538", tarziloen_book_load(buffer, 1024, 65538, values, 2), 28);
+    expect("the early file", tarziloen_book_load(early, 1024, 2, values, 2), 28);
+    expect("on its own", tarziloen_book_load(early, 1024, 1, values, 2), 0);
+    expect("its revision", values[0], 1);
+    expect("confirm 1", tarziloen_book_confirm(buffer, sizeof buffer, 1024, 1, values, 2), 0);
+    expect("a shorter form", values[0], 512);
+    expect("the last file", tarziloen_book_load(buffer, 512, 2, values, 2), 0);
+    expect("the same revision", values[0], 2);
+    early[4] ^= 1;
+    expect("changed byte", tarziloen_book_load(early, 1024, 9, values, 2), 19);
+}
+
+/* From the old form and back to it. */
+static void conversions(void)
+{
+    uint8_t buffer[TARZILOEN_BOOK_BYTES] = {0};
+    uint8_t old[TARZILOEN_OLD_BOOK_BYTES];
+    uint8_t copy[TARZILOEN_BOOK_BYTES];
+    uint16_t values[2] = {0};
+
+    memset(old, 9, sizeof old);
+    memset(copy, 9, sizeof copy);
+    expect("open", tarziloen_book_open(4, 1, buffer, sizeof buffer, values, 2), 0);
+    expect("{0,2}", tarziloen_book_grant(buffer, sizeof buffer, 512, 0, 2, 0, 0, 0, values, 2), 0);
+    expect("short buffer", tarziloen_book_convert_back(buffer, 1024, old, 1023, values, 2), 17);
+    expect("untouched buffer", old[0], 9);
+    expect("back", tarziloen_book_convert_back(buffer, 1024, old, sizeof old, values, 2), 0);
+    expect("length", values[0], 1024);
+    expect("bytes past it", old[1024], 9);
+    expect("it is not loaded", tarziloen_book_load(old, 1024, 0, values, 2), 20);
+    expect("nor converted back", tarziloen_book_convert_back(old, 1024, copy, sizeof copy, values, 2), 20);
+    expect("a book is not old", tarziloen_book_convert(buffer, 1024, copy, sizeof copy, values, 2), 20);
+    expect("short buffer", tarziloen_book_convert(old, 1024, copy, 1023, values, 2), 17);
+    expect("too long", tarziloen_book_convert(copy, 5632, buffer, sizeof buffer, values, 2), 18);
+    expect("untouched buffer", copy[0], 9);
+    expect("there", tarziloen_book_convert(old, 1024, copy, sizeof copy, values, 2), 0);
+    expect("length", values[0], 1024);
+    expect("the same book", memcmp(copy, buffer, 1024) == 0, 1);
+    expect("{2,3} to 1", tarziloen_book_grant(copy, sizeof copy, 1024, 2, 3, 0, 0, 1, values, 2), 0);
+    expect("a crew", tarziloen_book_convert_back(copy, 1024, old, 0, values, 2), 27);
+    expect("remove 1", tarziloen_book_remove(buffer, sizeof buffer, 1024, 1, values, 2), 0);
+    expect("pending", tarziloen_book_convert_back(buffer, 1024, old, sizeof old, values, 2), 27);
 }
 
 static void preview(void)
@@ -248,11 +266,12 @@ static void refusals(void)
     expect("untouched buffer", buffer[0], 7);
     expect("open", tarziloen_book_open(4, 1, buffer, sizeof buffer, values, 2), 0);
     expect("no room for a circuit", tarziloen_book_grant(buffer, 1023, 512, 0, 2, 0, 0, 0, values, 2), 17);
-    expect("nor for a crew", tarziloen_book_grant(buffer, 1023, 512, 0, 2, 0, 0, 1, values, 2), 25);
+    expect("nor for a crew's", tarziloen_book_grant(buffer, 1023, 512, 0, 2, 0, 0, 1, values, 2), 17);
     expect("length past the buffer", tarziloen_book_remove(buffer, 511, 512, 1, values, 2), 18);
     expect("length past the buffer", tarziloen_book_confirm(buffer, 511, 512, 1, values, 2), 18);
     expect("length of no form", tarziloen_book_show(buffer, 511, 1, 1000, values, 2), 18);
     expect("length of no form", tarziloen_book_preview(buffer, 511, lines, 3, values, 2), 18);
+    expect("length of no form", tarziloen_book_load(buffer, 511, 9, values, 2), 18);
     buffer[4] ^= 1;
     expect("changed byte", tarziloen_book_holder(buffer, 512, 0, 0, 1000, values, 2), 19);
     expect("changed byte", tarziloen_book_preview(buffer, 512, lines, 3, values, 2), 19);
@@ -267,8 +286,9 @@ int main(void)
     spare_colour();
     answer();
     book();
-    removal();
     crews();
+    revisions();
+    conversions();
     preview();
     refusals();
     printf(failures == 0 ? "ok\n" : "failed\n");

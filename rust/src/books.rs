@@ -68,9 +68,8 @@ pub struct Stop {
 /// Every circuit has a crew. The desk reads all orders, another crew its own live ones only. A removal leaves a circuit pending:
 /// its place and its colour stay held until the pull of its patch is confirmed.
 ///
-/// The stored form has no room for states and crews, so for now every record of this book is live and the desk's. A grant of
-/// another crew than the desk and a removal that the book would accept are refused by 25 and change nothing, a confirmation finds
-/// nothing to free, and another crew finds no order of its own.
+/// A book has a revision, which rises with each grant and each removal. A caller that passes the latest one it knows to
+/// [`Book::from_bytes`] gets no earlier file of the book.
 #[derive(Clone)]
 pub struct Book {
     buffer: [u8; Book::MAX_LENGTH],
@@ -78,8 +77,10 @@ pub struct Book {
 }
 
 impl Book {
-    /// The length of the longest stored form, that of 512 live circuits.
-    pub const MAX_LENGTH: usize = 5120;
+    /// The length of the longest stored form, that of 512 circuits.
+    pub const MAX_LENGTH: usize = 7168;
+    /// The same of the old form, which has no room for pending marks and crews.
+    pub const MAX_OLD_LENGTH: usize = 5120;
 
     /// An empty book of n nodes and w colours.
     pub fn open(n: u16, w: u16) -> Result<Book, Refusal> {
@@ -88,14 +89,10 @@ impl Book {
         Ok(Book { buffer, length })
     }
 
-    /// The book of a stored form.
-    pub fn from_bytes(bytes: &[u8]) -> Result<Book, Refusal> {
-        // No circuit has serial 0: the refusal is 14 if the bytes load, and the load's own if they do not.
-        if let Err(refusal) = buffers::show(bytes, 0, Crew::DESK) {
-            if refusal.number != 14 {
-                return Err(refusal);
-            }
-        }
+    /// The book of a stored form, if its revision is the lowest that is told or a later one; 0 takes every book. Refused: 18, 19, 20,
+    /// and last 28 for an earlier revision.
+    pub fn from_bytes(bytes: &[u8], lowest: u32) -> Result<Book, Refusal> {
+        buffers::load(bytes, lowest)?;
         let mut buffer = [0; Book::MAX_LENGTH];
         buffer[..bytes.len()].copy_from_slice(bytes);
         Ok(Book {
@@ -104,13 +101,32 @@ impl Book {
         })
     }
 
+    /// The book of a file in the old form, in which every circuit is live and the desk's.
+    pub fn from_old(bytes: &[u8]) -> Result<Book, Refusal> {
+        let mut buffer = [0; Book::MAX_LENGTH];
+        let length = buffers::convert(bytes, &mut buffer)?;
+        Ok(Book { buffer, length })
+    }
+
+    /// The old form, which has no room for pending marks and crews: 27 for a book with a circuit that is pending or not the desk's.
+    pub fn to_old(&self) -> Result<Vec<u8>, Refusal> {
+        let mut form = vec![0; Book::MAX_OLD_LENGTH];
+        let length = buffers::convert_back(self.bytes(), &mut form)?;
+        form.truncate(length);
+        Ok(form)
+    }
+
+    /// Twice the grants so far less the live circuits: it rises by one with each grant and each removal, and stays with a confirmation.
+    pub fn revision(&self) -> u32 {
+        buffers::load(self.bytes(), 0).expect("the bytes of a book are its stored form")
+    }
+
     /// The stored form.
     pub fn bytes(&self) -> &[u8] {
         &self.buffer[..self.length]
     }
 
-    /// Grants a circuit between two nodes to a crew; gives its serial. What is granted to another crew than the desk cannot be
-    /// stored, and is refused by 25 behind the grant's own grounds.
+    /// Grants a circuit between two nodes to a crew; gives its serial.
     pub fn grant(
         &mut self,
         x: u16,
@@ -126,21 +142,21 @@ impl Book {
         Ok(serial)
     }
 
-    /// Removes the circuit of a serial, which would leave it pending: 14, 15, and for a live circuit 25.
+    /// Removes the circuit of a serial, which leaves it pending: 14, and 15 for one that was removed before.
     pub fn remove(&mut self, serial: u16) -> Result<(), Refusal> {
         self.length = buffers::remove(&mut self.buffer, self.length, serial)?;
         Ok(())
     }
 
     /// Confirms that the patch of a removed circuit is pulled, which frees its place and its colour: 14, 23 for a live circuit,
-    /// and 24 for one that the stored form no longer has.
+    /// and 24 for one that is confirmed already.
     pub fn confirm(&mut self, serial: u16) -> Result<(), Refusal> {
         self.length = buffers::confirm(&mut self.buffer, self.length, serial)?;
         Ok(())
     }
 
-    /// Shows the circuit of a serial to a crew: for the desk 14, and 15 for one that the stored form no longer has; for another
-    /// crew 14, whatever the serial, since no circuit of this book is its own.
+    /// Shows the circuit of a serial to a crew: for the desk 14, and 15 for one that was removed; for another crew 14 for every
+    /// serial that is not a live circuit of its own.
     pub fn show(&self, serial: u16, crew: Crew) -> Result<Circuit, Refusal> {
         buffers::show(self.bytes(), serial, crew)
     }
@@ -150,7 +166,7 @@ impl Book {
         buffers::holder(self.bytes(), link, colour, crew)
     }
 
-    /// Tries 1 to 16 grants, one after another, on a copy of the book. The copy is not stored, so any crew's grants are tried.
+    /// Tries 1 to 16 grants, one after another, on a copy of the book.
     pub fn preview(&self, lines: &[Line]) -> Result<Preview, Refusal> {
         let numbers: Vec<u16> = lines
             .iter()

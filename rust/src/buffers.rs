@@ -1,10 +1,8 @@
 //! A book in a buffer of the caller's, where its stored form is the first bytes.
 //!
-//! Each call loads the book, acts and stores it. Refusals of the load come first, then those of the
-//! operation, then 25 for a book with a record that is pending or whose crew is not 0, then 17 for a
-//! buffer with no room for the new form. Bytes past the new form stay.
-//!
-//! The stored form has no room for states and crews, so every record in a buffer is live and the desk's.
+//! Each call loads the book, whatever its revision, acts and stores it. Refusals of the load come first,
+//! then those of the operation, then 17 for a buffer with no room for the changed book. Bytes past its
+//! stored form stay.
 
 use crate::refusals::{answered, answered_with};
 use crate::{raw, Circuit, Crew, Holder, Preview, Refusal, Stop, Way};
@@ -12,17 +10,46 @@ use crate::{raw, Circuit, Crew, Holder, Preview, Refusal, Stop, Way};
 /// The most values of a preview: the number of serials, a line and its refusal, 16 serials.
 const PREVIEW_VALUES: usize = 19;
 
+/// Loads the book of a stored form, if its revision is the lowest that is told or a later one; gives that revision.
+pub fn load(bytes: &[u8], lowest: u32) -> Result<u32, Refusal> {
+    // SAFETY: each pointer comes with the length of the slice that it points to, and the library stays within them.
+    answered(|values, count| unsafe {
+        raw::tarziloen_book_load(bytes.as_ptr(), bytes.len(), lowest, values, count)
+    })
+    .map(|[low, high, ..]| u32::from(low) + 65536 * u32::from(high))
+}
+
+/// Writes the stored form of the book that the bytes are the old form of, in which every record is live and the desk's; gives its
+/// length.
+pub fn convert(bytes: &[u8], buffer: &mut [u8]) -> Result<usize, Refusal> {
+    let (start, room) = (buffer.as_mut_ptr(), buffer.len());
+    // SAFETY: as in `load`.
+    answered(|values, count| unsafe {
+        raw::tarziloen_book_convert(bytes.as_ptr(), bytes.len(), start, room, values, count)
+    })
+    .map(|values| values[0] as usize)
+}
+
+/// Writes the old form of the book of a stored form; gives its length. A book with a record that is pending or whose crew is not 0
+/// has none, and is refused by 27.
+pub fn convert_back(bytes: &[u8], buffer: &mut [u8]) -> Result<usize, Refusal> {
+    let (start, room) = (buffer.as_mut_ptr(), buffer.len());
+    // SAFETY: as in `load`.
+    answered(|values, count| unsafe {
+        raw::tarziloen_book_convert_back(bytes.as_ptr(), bytes.len(), start, room, values, count)
+    })
+    .map(|values| values[0] as usize)
+}
+
 /// Opens a book of n nodes and w colours; gives the length of its form.
 pub fn open(n: u16, w: u16, buffer: &mut [u8]) -> Result<usize, Refusal> {
     let (start, room) = (buffer.as_mut_ptr(), buffer.len());
-    // SAFETY: each pointer comes with the length of the slice that it points to, and the library stays within them.
+    // SAFETY: as in `load`.
     answered(|values, count| unsafe { raw::tarziloen_book_open(n, w, start, room, values, count) })
         .map(|values| values[0] as usize)
 }
 
-/// Grants a circuit between two nodes, by way 0 (plain) or 1 (seam), to a crew; gives its serial and the length of the new form.
-/// The stored form has no room for a crew, so for another crew than the desk this is always refused: by 25 behind the load's
-/// refusals, 4, 5, 9, 10, 26, 11, 12 and 13.
+/// Grants a circuit between two nodes, by way 0 (plain) or 1 (seam), to a crew; gives its serial and the length of the stored form.
 pub fn grant(
     buffer: &mut [u8],
     length: usize,
@@ -32,15 +59,14 @@ pub fn grant(
     Crew(crew): Crew,
 ) -> Result<(u16, usize), Refusal> {
     let (start, room) = (buffer.as_mut_ptr(), buffer.len());
-    // SAFETY: as in `open`; the library compares `length` with the buffer's own length.
+    // SAFETY: as in `load`; the library compares `length` with the buffer's own length.
     answered(|values, count| unsafe {
         raw::tarziloen_book_grant(start, room, length, x, y, way, colour, crew, values, count)
     })
     .map(|values| (values[0], values[1] as usize))
 }
 
-/// Removes the circuit of a serial, which leaves it pending; gives the length of the new form. The stored form cannot hold a
-/// pending record, so this is always refused: 25 for a live circuit, behind the load's refusals, 14 and 15.
+/// Removes the circuit of a serial, which leaves it pending; gives the length of the stored form.
 pub fn remove(buffer: &mut [u8], length: usize, serial: u16) -> Result<usize, Refusal> {
     let (start, room) = (buffer.as_mut_ptr(), buffer.len());
     // SAFETY: as in `grant`.
@@ -50,8 +76,7 @@ pub fn remove(buffer: &mut [u8], length: usize, serial: u16) -> Result<usize, Re
     .map(|values| values[0] as usize)
 }
 
-/// Confirms that the patch of a removed circuit is pulled; gives the length of the new form. No record in a buffer is pending,
-/// so this is always refused: by the load's refusals, 14, 23 for a live circuit, or 24 for one that the form no longer has.
+/// Confirms that the patch of a removed circuit is pulled, which frees its place and its colour; gives the length of the stored form.
 pub fn confirm(buffer: &mut [u8], length: usize, serial: u16) -> Result<usize, Refusal> {
     let (start, room) = (buffer.as_mut_ptr(), buffer.len());
     // SAFETY: as in `grant`.
@@ -63,7 +88,7 @@ pub fn confirm(buffer: &mut [u8], length: usize, serial: u16) -> Result<usize, R
 
 /// Shows the circuit of a serial in the book of a stored form to a crew.
 pub fn show(bytes: &[u8], serial: u16, Crew(crew): Crew) -> Result<Circuit, Refusal> {
-    // SAFETY: as in `open`.
+    // SAFETY: as in `load`.
     answered(|values, count| unsafe {
         raw::tarziloen_book_show(bytes.as_ptr(), bytes.len(), serial, crew, values, count)
     })
@@ -78,7 +103,7 @@ pub fn show(bytes: &[u8], serial: u16, Crew(crew): Crew) -> Result<Circuit, Refu
 /// Says to a crew whether a colour is held on a link in the book of a stored form, and by which order if it may read it.
 pub fn holder(bytes: &[u8], link: u16, colour: u16, Crew(crew): Crew) -> Result<Holder, Refusal> {
     let (start, length) = (bytes.as_ptr(), bytes.len());
-    // SAFETY: as in `open`.
+    // SAFETY: as in `load`.
     answered(|values, count| unsafe {
         raw::tarziloen_book_holder(start, length, link, colour, crew, values, count)
     })
@@ -90,10 +115,10 @@ pub fn holder(bytes: &[u8], link: u16, colour: u16, Crew(crew): Crew) -> Result<
 }
 
 /// Tries 1 to 16 grants, one after another, on a copy of the book of a stored form; each has five numbers: x, y, way, colour and
-/// crew. The copy is not stored, so any crew's grants are tried.
+/// crew.
 pub fn preview(bytes: &[u8], lines: &[u16]) -> Result<Preview, Refusal> {
     let (start, given) = (lines.as_ptr(), lines.len());
-    // SAFETY: as in `open`.
+    // SAFETY: as in `load`.
     answered_with::<PREVIEW_VALUES>(|values, count| unsafe {
         raw::tarziloen_book_preview(bytes.as_ptr(), bytes.len(), start, given, values, count)
     })

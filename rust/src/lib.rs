@@ -10,18 +10,23 @@
 //! assert_eq!(book.grant(0, 2, Way::Plain, 0, Crew::DESK)?, 1);
 //! let refusal = book.grant(1, 3, Way::Plain, 0, Crew::DESK).unwrap_err();
 //! assert_eq!(refusal.ground(), "that colour is held on a link of the way");
-//! let stored = book.bytes().to_vec();
-//! let loaded = Book::from_bytes(&stored)?;
-//! assert_eq!(loaded.holder(1, 0, Crew::DESK)?, Holder::HeldBy(1));
 //! // Another crew does not learn whose order it is.
-//! assert_eq!(loaded.holder(1, 0, Crew(7))?, Holder::Held);
-//! assert_eq!(loaded.show(1, Crew(7)).unwrap_err().number, 14);
-//! // The stored form has no room for another crew than the desk, nor for the pending record that a removal leaves: the book
-//! // stays as it is.
-//! assert_eq!(book.grant(2, 3, Way::Plain, 0, Crew(7)).unwrap_err().number, 25);
-//! assert_eq!(book.remove(1).unwrap_err().number, 25);
-//! assert_eq!(book.confirm(1).unwrap_err().ground(), "the circuit is live");
-//! assert_eq!(book.bytes(), stored);
+//! assert_eq!(book.holder(1, 0, Crew::DESK)?, Holder::HeldBy(1));
+//! assert_eq!(book.holder(1, 0, Crew(7))?, Holder::Held);
+//! assert_eq!(book.show(1, Crew(7)).unwrap_err().number, 14);
+//! // A removed order holds its colour until the pull of its patch is confirmed.
+//! let stored = book.bytes().to_vec();
+//! book.remove(1)?;
+//! assert_eq!(book.holder(1, 0, Crew::DESK)?, Holder::HeldBy(1));
+//! book.confirm(1)?;
+//! assert_eq!(book.holder(1, 0, Crew::DESK)?, Holder::Free);
+//! // A file from before the removal does not bring the order back to one who knows the revision.
+//! let refusal = Book::from_bytes(&stored, book.revision()).unwrap_err();
+//! assert_eq!(refusal.ground(), "revision too low");
+//! // The old form has no room for pending marks and crews.
+//! assert_eq!(Book::from_old(&book.to_old()?)?, book);
+//! book.grant(2, 3, Way::Plain, 0, Crew(7))?;
+//! assert_eq!(book.to_old().unwrap_err().number, 27);
 //! # Ok::<(), ring_planner::Refusal>(())
 //! ```
 

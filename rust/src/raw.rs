@@ -21,6 +21,29 @@ extern "C" {
         values: *mut u16,
         values_len: usize,
     ) -> u16;
+    pub fn tarziloen_book_load(
+        bytes: *const u8,
+        bytes_len: usize,
+        lowest: u32,
+        values: *mut u16,
+        values_len: usize,
+    ) -> u16;
+    pub fn tarziloen_book_convert(
+        bytes: *const u8,
+        bytes_len: usize,
+        buffer: *mut u8,
+        buffer_len: usize,
+        values: *mut u16,
+        values_len: usize,
+    ) -> u16;
+    pub fn tarziloen_book_convert_back(
+        bytes: *const u8,
+        bytes_len: usize,
+        buffer: *mut u8,
+        buffer_len: usize,
+        values: *mut u16,
+        values_len: usize,
+    ) -> u16;
     pub fn tarziloen_book_open(
         n: u16,
         w: u16,

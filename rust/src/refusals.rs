@@ -31,7 +31,7 @@ impl Refusal {
             15 => "removed",
             16 => "link n or more",
             17 => "buffer shorter than the length",
-            18 => "length 0, not a multiple of 512, or above 5,120",
+            18 => "length 0, not a multiple of 512, or above 7,168 (5,120 in the old form)",
             19 => "a wrong block number or check",
             20 => {
                 "a record with fate number 0, or anything else that breaks the stored form, a limit, \
@@ -41,8 +41,10 @@ impl Refusal {
             22 => "no line or more than 16",
             23 => "the circuit is live",
             24 => "already confirmed",
-            25 => "a record that is pending or whose crew is not 0 cannot be stored",
+            25 => "a record that is pending or whose crew is not 0 has no old form",
             26 => "crew above 999",
+            27 => "a record that is pending or whose crew is not 0 cannot be converted back",
+            28 => "revision too low",
             _ => "unknown",
         }
     }
@@ -86,10 +88,10 @@ mod tests {
             let values = [0, 0];
             Refusal { number, values }.ground()
         };
-        let mut all: Vec<&str> = (1..=26).map(words).collect();
+        let mut all: Vec<&str> = (1..=28).map(words).collect();
         all.sort();
         all.dedup();
-        assert_eq!(all.len(), 26);
-        assert!(!all.contains(&words(0)) && words(0) == words(27));
+        assert_eq!(all.len(), 28);
+        assert!(!all.contains(&words(0)) && words(0) == words(29));
     }
 }

@@ -1,9 +1,9 @@
-//! The book in its stored form against a naive map, over long histories of calls, out of range too.
+//! The book in its stored form against naive maps, over long histories of calls, out of range too.
 mod reference;
 
 use reference::books::{NaiveBook, DESK};
-use reference::draws::{draw, draw_crew, draw_grant, draw_serial};
-use reference::stored::{change, encode, load};
+use reference::draws::{draw, draw_crew, draw_grant, draw_pending, draw_serial};
+use reference::stored::{encode, load};
 use reference::tallies::{asked_by, Tally};
 use reference::Random;
 use ring_planner::{Book, Crew, Holder, Refusal, Way};
@@ -25,39 +25,29 @@ impl Pair {
     /// The naive book's fellow is loaded from its stored form.
     fn load(naive: NaiveBook) -> Pair {
         Pair {
-            book: Book::from_bytes(&encode(&naive)).unwrap(),
+            book: Book::from_bytes(&encode(&naive), naive.revision()).unwrap(),
             naive,
             tally: Tally::default(),
         }
     }
 
-    /// The stored form has no room for a crew: a grant that the naive book makes to another than the desk is refused by 25.
     fn grant(&mut self, [x, y]: [u16; 2], way: Way, colour: u16, crew: u16) {
         let got = self.book.grant(x, y, way, colour, Crew(crew));
-        let asked = [x, y, way as u16, colour, crew];
-        let want = change(&mut self.naive, |naive| naive.grant(asked));
+        let want = self.naive.grant([x, y, way as u16, colour, crew]);
         let name = asked_by(crew, ["grant", "grant to a crew"]);
         self.tally.agree(name, got, want);
     }
 
-    /// The stored form cannot hold what a removal leaves: one that the naive book makes is refused by 25.
     fn remove(&mut self, serial: u16) {
         let got = self.book.remove(serial);
-        let want = change(&mut self.naive, |naive| naive.remove(serial));
+        let want = self.naive.remove(serial);
         self.tally.agree("remove", got, want);
     }
 
     fn confirm(&mut self, serial: u16) {
         let got = self.book.confirm(serial);
-        let want = change(&mut self.naive, |naive| naive.confirm(serial));
+        let want = self.naive.confirm(serial);
         self.tally.agree("confirm", got, want);
-    }
-
-    /// An order that was removed and confirmed, in a form that only the second writer can write.
-    fn lapse(&mut self, serial: u16) {
-        if self.naive.lapse(serial).is_ok() {
-            self.book = Book::from_bytes(&encode(&self.naive)).unwrap();
-        }
     }
 
     fn show(&mut self, serial: u16, crew: u16) {
@@ -70,16 +60,24 @@ impl Pair {
         let got = self.book.holder(link, colour, Crew(crew));
         let want = self.naive.holder(link, colour, crew);
         let name = match (crew, want) {
-            (DESK, Ok(Holder::HeldBy(_))) => "held by an order",
+            (DESK, Ok(Holder::HeldBy(serial))) => match self.naive.pending.contains_key(&serial) {
+                true => "held by a pending order",
+                false => "held by an order",
+            },
+            (_, Ok(Holder::HeldBy(_))) => "held by a crew's own",
             (_, Ok(Holder::Held)) => "held for a crew",
             _ => asked_by(crew, ["holder", "holder for a crew"]),
         };
         self.tally.agree(name, got, want);
     }
 
-    /// Any call; grants come `grants` times in 16.
+    /// Any call; grants come `grants` times in 16. The stored form and the revision are compared after each.
     fn call(&mut self, random: &mut Random, grants: u64) {
         let (n, w) = (self.naive.n, self.naive.w);
+        let serial = match random.below(2) {
+            0 => draw_serial(random, &self.naive),
+            _ => draw_pending(random, &self.naive),
+        };
         match random.below(16) {
             k if k < grants => {
                 let [x, y, way, colour, crew] = draw_grant(random, n, w);
@@ -87,24 +85,26 @@ impl Pair {
                 self.grant([x, y], way, colour, crew);
             }
             14 => {
-                let serial = draw_serial(random, &self.naive);
-                self.show(serial, draw_crew(random));
+                let crew = match random.below(2) {
+                    0 => self.naive.crew_of(serial),
+                    _ => draw_crew(random),
+                };
+                self.show(serial, crew);
             }
             15 => self.holder(draw(random, n), draw(random, w), draw_crew(random)),
-            _ => {
-                let serial = draw_serial(random, &self.naive);
-                match random.below(4) {
-                    0 => self.remove(serial),
-                    1 => self.confirm(serial),
-                    _ => self.lapse(serial),
-                }
-            }
+            k if k % 2 == 0 => self.remove(serial),
+            _ => self.confirm(serial),
         }
-        assert!(self.book.bytes() == encode(&self.naive), "the stored form");
+        self.same_form();
     }
 
-    /// Every link and colour's holder, every call on each of the serials, each question by the desk and by a crew; and the way through the
-    /// stored form.
+    fn same_form(&self) {
+        assert!(self.book.bytes() == encode(&self.naive), "the stored form");
+        assert_eq!(self.book.revision(), self.naive.revision());
+    }
+
+    /// Every link and colour's holder and each of the serials, asked by the desk and by a crew; the way through the stored form; and on a
+    /// copy, every one of the orders removed and confirmed.
     fn compare(&mut self, serials: impl Iterator<Item = u16>, crew: u16) {
         for link in 0..=self.naive.n {
             for colour in 0..=self.naive.w {
@@ -112,34 +112,39 @@ impl Pair {
                 self.holder(link, colour, crew);
             }
         }
+        let loaded = Book::from_bytes(self.book.bytes(), self.book.revision()).unwrap();
+        assert!(loaded == self.book && load(self.book.bytes(), 0) == Ok(self.naive.clone()));
+        self.book = loaded;
+        let before = (self.book.clone(), self.naive.clone());
         for serial in serials {
             self.show(serial, DESK);
             self.show(serial, crew);
             self.remove(serial);
             self.confirm(serial);
+            self.same_form();
         }
-        let loaded = Book::from_bytes(self.book.bytes()).unwrap();
-        assert!(loaded == self.book && load(self.book.bytes()) == Ok(self.naive.clone()));
-        self.book = loaded;
+        (self.book, self.naive) = before;
     }
 }
 
 /// The answers that histories bring; those that only a full book or a late one gives are named there.
-const ANSWERS: [(&str, &[u16]); 10] = [
+const ANSWERS: [(&str, &[u16]); 12] = [
     ("grant", &[0, 4, 5, 10, 11]),
-    ("grant to a crew", &[4, 5, 10, 11, 25, 26]),
-    ("remove", &[14, 15, 25]),
-    ("confirm", &[14, 23, 24]),
+    ("grant to a crew", &[0, 4, 5, 10, 11, 26]),
+    ("remove", &[0, 14, 15]),
+    ("confirm", &[0, 14, 23, 24]),
     ("show", &[0, 14, 15]),
-    ("show to a crew", &[14, 26]),
+    ("show to a crew", &[0, 14, 26]),
     ("holder", &[0, 10, 16]),
     ("held by an order", &[0]),
+    ("held by a pending order", &[0]),
     ("holder for a crew", &[0, 10, 16, 26]),
     ("held for a crew", &[0]),
+    ("held by a crew's own", &[0]),
 ];
 
 #[test]
-fn histories_agree_with_a_map() {
+fn histories_agree_with_maps() {
     let mut random = Random::new(4);
     let mut tally = Tally::default();
     for round in 0..240 {
@@ -179,7 +184,7 @@ fn a_full_book_and_the_last_serial() {
     let mut random = Random::new(5);
     let mut pair = full_book(&mut random);
     for _ in 0..5000 {
-        pair.call(&mut random, 13);
+        pair.call(&mut random, 12);
     }
     let grants = pair.naive.grants;
     pair.compare((0..=grants + 1).step_by(7), 1);
@@ -205,23 +210,21 @@ fn a_full_book_and_the_last_serial() {
     );
 }
 
-/// The last two serials go to the desk: what another crew asks for in between takes none.
+/// The last two serials, to a crew and to the desk: a confirmation brings none back.
 #[test]
 fn the_last_serial() {
     let mut last = Pair::load(NaiveBook {
         grants: 65533,
         ..NaiveBook::open(4, 1).unwrap()
     });
-    for ([x, y], crew) in [
-        ([0, 1], 5),
-        ([0, 1], 0),
-        ([2, 1], 0),
-        ([2, 3], 0),
-        ([3, 0], 999),
-        ([0, 1], 0),
-    ] {
+    for ([x, y], crew) in [([0, 1], 5), ([2, 1], 0), ([2, 3], 0), ([3, 0], 999)] {
         last.grant([x, y], Way::Plain, 0, crew);
     }
+    assert_eq!(last.book.revision(), 131_068);
+    last.remove(65534);
+    last.confirm(65534);
+    last.remove(65535);
+    assert_eq!(last.book.revision(), 131_070);
     for (crew, number) in [(0, 13), (999, 13), (1000, 26)] {
         let refused = last.book.grant(2, 3, Way::Plain, 0, Crew(crew));
         assert_eq!(refused.map_err(|r| r.number), Err(number));
@@ -229,66 +232,53 @@ fn the_last_serial() {
     last.compare([0, 1, 65533, 65534, 65535].into_iter(), 5);
 }
 
-/// Case T7 of the rules in its stored form: the removal is refused, and the rest is about a form in which it was made and confirmed.
+/// Case T7 of the rules, with the revision after each call.
 #[test]
-fn case_t7_in_the_stored_form() {
+fn case_t7() {
     let number = |refusal: Refusal| refusal.number;
     let mut book = Book::open(4, 1).unwrap();
-    let mut grant = |x, y, way| book.grant(x, y, way, 0, Crew::DESK).map_err(number);
-    assert_eq!(grant(0, 2, Way::Plain), Ok(1));
-    assert_eq!(grant(2, 3, Way::Plain), Ok(2));
-    assert_eq!(grant(1, 3, Way::Plain), Err(11));
-    let before = book.clone();
-    assert_eq!(book.confirm(1).map_err(number), Err(23));
-    assert_eq!(book.remove(1).map_err(number), Err(25));
-    assert_eq!(book.confirm(1).map_err(number), Err(23));
-    assert_eq!(book.holder(0, 0, Crew::DESK), Ok(Holder::HeldBy(1)));
-    assert_eq!(book, before, "the order is live as before");
-    let mut naive = load(book.bytes()).unwrap();
-    naive.lapse(1).unwrap();
-    let mut book = Book::from_bytes(&encode(&naive)).unwrap();
-    let mut grant = |x, y, way| book.grant(x, y, way, 0, Crew::DESK).map_err(number);
-    assert_eq!(grant(0, 2, Way::Seam), Err(11));
-    assert_eq!(grant(0, 1, Way::Plain), Ok(3));
+    let grant = |book: &mut Book, x, y, way| book.grant(x, y, way, 0, Crew::DESK).map_err(number);
     let show = |book: &Book, serial| book.show(serial, Crew::DESK).map_err(number);
-    assert_eq!(show(&book, 1), Err(15));
+    assert_eq!(book.revision(), 0);
+    assert_eq!(grant(&mut book, 0, 2, Way::Plain), Ok(1));
+    assert_eq!(grant(&mut book, 2, 3, Way::Plain), Ok(2));
+    assert_eq!(grant(&mut book, 1, 3, Way::Plain), Err(11));
+    assert_eq!(book.confirm(1).map_err(number), Err(23));
+    assert_eq!(book.revision(), 2);
+    assert_eq!(book.remove(1), Ok(()));
+    assert_eq!(book.revision(), 3);
+    assert_eq!(grant(&mut book, 0, 1, Way::Plain), Err(11));
+    assert_eq!(book.holder(0, 0, Crew::DESK), Ok(Holder::HeldBy(1)));
     assert_eq!(book.remove(1).map_err(number), Err(15));
+    assert_eq!(book.confirm(1), Ok(()));
     assert_eq!(book.confirm(1).map_err(number), Err(24));
+    assert_eq!(book.revision(), 3);
+    assert_eq!(grant(&mut book, 0, 2, Way::Seam), Err(11));
+    assert_eq!(grant(&mut book, 0, 1, Way::Plain), Ok(3));
+    assert_eq!(book.revision(), 4);
+    assert_eq!(show(&book, 1), Err(15));
     assert_eq!(show(&book, 4), Err(14));
 }
 
-/// What another crew than the desk learns of a stored book: nothing of its orders, and which colours are held.
+/// The bytes of a book, one by one: an order of crew 999 that is pending, and one of the desk's that is live.
 #[test]
-fn another_crew_at_the_stored_form() {
-    let number = |refusal: Refusal| refusal.number;
+fn the_stored_form_byte_by_byte() {
     let mut book = Book::open(4, 1).unwrap();
-    assert_eq!(book.grant(0, 2, Way::Plain, 0, Crew::DESK), Ok(1));
-    let before = book.clone();
-    let mut grant = |x, y, colour, crew| {
-        book.grant(x, y, Way::Plain, colour, Crew(crew))
-            .map_err(number)
-    };
-    assert_eq!(grant(2, 3, 0, 1), Err(25));
-    assert_eq!(grant(2, 3, 0, 999), Err(25));
-    assert_eq!(grant(2, 3, 0, 1000), Err(26));
-    assert_eq!(grant(1, 3, 0, 999), Err(11));
-    assert_eq!(grant(1, 3, 0, 1000), Err(26));
-    assert_eq!(grant(1, 3, 1, 1000), Err(10));
-    assert_eq!(book, before, "nothing was granted");
-    for crew in [1, 7, 999].map(Crew) {
-        for serial in [0, 1, 2, 65535] {
-            assert_eq!(book.show(serial, crew).map_err(number), Err(14));
-        }
-        let holders = [0, 1, 2, 3].map(|link| book.holder(link, 0, crew).unwrap());
-        assert_eq!(
-            holders,
-            [Holder::Held, Holder::Held, Holder::Free, Holder::Free]
-        );
-        assert_eq!(book.holder(4, 1, crew).map_err(number), Err(16));
-        assert_eq!(book.holder(0, 1, crew).map_err(number), Err(10));
+    book.grant(2, 0, Way::Plain, 0, Crew(999)).unwrap();
+    book.grant(3, 2, Way::Plain, 0, Crew::DESK).unwrap();
+    book.remove(1).unwrap();
+    let mut want = [0; 1024];
+    want[..9].copy_from_slice(&[4, 0, 1, 0, 2, 0, 2, 0, 2]);
+    let first = [1, 0, 0, 0, 2, 0, 1, 0, 231, 3, 1, 0];
+    let second = [2, 0, 2, 0, 3, 0, 1, 0, 0, 0, 0, 0];
+    want[512..524].copy_from_slice(&first);
+    want[524..536].copy_from_slice(&second);
+    want[1020] = 1;
+    for block in want.chunks_mut(512) {
+        let sum: u32 = (1..=510).zip(&*block).map(|(i, &b)| i * b as u32).sum();
+        block[510] = (sum % 65521 % 256) as u8;
+        block[511] = (sum % 65521 / 256) as u8;
     }
-    for crew in [1000, 65535].map(Crew) {
-        assert_eq!(book.show(0, crew).map_err(number), Err(26));
-        assert_eq!(book.holder(4, 1, crew).map_err(number), Err(26));
-    }
+    assert_eq!(book.bytes(), want);
+    assert_eq!(book.revision(), 3);
 }

@@ -1,5 +1,5 @@
-//! What a crew other than the desk learns of the proved book in memory, and what it does not: two books that differ only in what it may not
-//! see give it the same answers.
+//! What a crew other than the desk learns of the proved book, in memory and in a buffer, and what it does not: two books that differ only
+//! in what it may not see give it the same answers.
 mod calls;
 mod programs;
 mod reference;

@@ -1,5 +1,5 @@
-//! The proved book in memory, on which program `calls_run` plays calls, against the naive one: removals leave their records pending,
-//! confirmations free them, and every crew reads what it may.
+//! The proved book in memory, on which program `calls_run` plays calls, and in a buffer of the C interface, against the naive one: removals
+//! leave their records pending, confirmations free them, and every crew reads what it may.
 mod calls;
 mod programs;
 mod reference;

@@ -1,217 +1,148 @@
-//! The loader against a naive one, on damaged files.
+//! The loaders of both stored forms against naive ones, on damaged files.
+mod files;
 mod reference;
 
 use std::collections::BTreeMap;
 
-use reference::books::{NaiveBook, DESK};
-use reference::draws::draw_grant;
-use reference::stored::{change, encode, load, put, seal, word, BLOCK};
+use files::{damage, same_book, Form, NEW_FORM, OLD_FORM};
+use reference::blocks::seal;
 use reference::Random;
-use ring_planner::{buffers, Book, Crew, Refusal};
 
-/// The loader's verdict: the refusal's number, or none.
-fn verdict(bytes: &[u8]) -> Option<u16> {
-    let number = Book::from_bytes(bytes).err().map(|r| r.number);
-    // A question on the same bytes is refused alike, and its own grounds come behind.
-    let asked = buffers::holder(bytes, 65535, 0, Crew(1000)).unwrap_err();
-    assert_eq!(asked.number, number.unwrap_or(26));
-    number
-}
+/// Nodes, colours, records, and whether every other value of each byte is tried.
+const FILES: [(u16, u16, usize, bool); 6] = [
+    (3, 1, 0, true),
+    (256, 128, 1, true),
+    (9, 3, 5, true),
+    (64, 8, 42, false),
+    (200, 9, 64, false),
+    (256, 128, 512, false),
+];
 
-/// A book with some live circuits, all the desk's, and removals in its past that were confirmed.
-fn book(random: &mut Random, n: u16, w: u16, live: usize) -> NaiveBook {
-    let mut book = NaiveBook::open(n, w).unwrap();
-    while book.live.len() < live {
-        let asked = draw_grant(random, n, w);
-        if let Ok(serial) = change(&mut book, |book| book.grant(asked)) {
-            if random.below(4) == 0 {
-                book.lapse(serial).unwrap();
-            }
-        }
-    }
-    book
-}
-
-#[test]
-fn every_changed_byte_is_refused() {
-    let mut random = Random::new(7);
-    let (mut files, mut changes) = (0, 0);
-    for (n, w, live, all) in [
-        (3, 1, 0, true),
-        (256, 128, 1, true),
-        (9, 3, 5, true),
-        (200, 9, 64, false),
-        (256, 128, 512, false),
-    ] {
-        let form = encode(&book(&mut random, n, w, live));
-        assert_eq!(verdict(&form), None);
-        for at in 0..form.len() {
-            let old = form[at];
-            let mut bytes = form.clone();
+fn every_changed_byte(form: &Form, random: &mut Random) {
+    let mut changes = 0;
+    for (n, w, records, all) in FILES {
+        let whole = (form.encode)(&(form.draw)(random, n, w, records));
+        assert_eq!((form.verdict)(&whole), None);
+        for at in 0..whole.len() {
+            let mut bytes = whole.clone();
             let steps = match all {
                 true => (1..=255).collect(),
                 false => vec![1, 1 + random.below(255) as u8, 128],
             };
             for step in steps {
-                bytes[at] = old.wrapping_add(step);
-                assert_eq!(verdict(&bytes), Some(19), "byte {at}");
-                assert_eq!(load(&bytes), Err(19));
+                bytes[at] = whole[at].wrapping_add(step);
+                assert_eq!((form.verdict)(&bytes), Some(19), "byte {at}");
+                assert_eq!((form.load)(&bytes), Err(19));
                 changes += 1;
             }
         }
-        files += 1;
     }
-    println!("{changes} changes of one byte in {files} files refused");
-}
-
-/// Adds to a number, modulo 65,536.
-fn add(bytes: &mut [u8], at: usize, number: u16) {
-    let sum = word(bytes, at).wrapping_add(number);
-    put(bytes, at, sum);
-}
-
-/// Numbers at the limits of n, w and the live count.
-const LIMITS: [u16; 9] = [0, 2, 3, 128, 129, 256, 257, 512, 513];
-
-/// One damage that a careless writer or a bad copy might do.
-fn damage(random: &mut Random, bytes: &mut Vec<u8>) {
-    let blocks = bytes.len() / BLOCK;
-    let block = BLOCK * random.below(blocks as u64) as usize;
-    let record = block + 8 * random.below(63) as usize;
-    let field = record + 2 * random.below(4) as usize;
-    let header = 2 * random.below(4) as usize;
-    match random.below(12) {
-        0 => bytes[block + random.below(508) as usize] = random.below(256) as u8,
-        1 => put(bytes, header, LIMITS[random.below(9) as usize]),
-        2 => put(bytes, header, random.below(65536) as u16),
-        3 => add(bytes, header, 1),
-        4 => add(bytes, header, 65535),
-        5 => put(bytes, field, random.below(300) as u16),
-        6 => add(bytes, field, 1),
-        7 => add(bytes, field, 65535),
-        8 => bytes.copy_within(record..record + 8, block + 8 * random.below(63) as usize),
-        9 => bytes[record..record + 8].fill(0),
-        10 => bytes.truncate(BLOCK * (1 + random.below(blocks as u64) as usize)),
-        _ => bytes.extend_from_within(block..block + BLOCK),
-    }
-}
-
-/// Puts the numbers and the checks of the blocks right.
-fn repair(bytes: &mut [u8]) {
-    for (i, block) in bytes.chunks_mut(BLOCK).enumerate() {
-        put(block, 508, i as u16);
-        seal(block);
-    }
-}
-
-/// A removal and a confirmation of the serial are refused as the naive book's are.
-fn same_refusals(loaded: &mut Book, naive: &NaiveBook, serial: u16) {
-    let number = |answer: Result<(), Refusal>| answer.map_err(|r| r.number);
-    let mut naive = naive.clone();
-    let removed = change(&mut naive, |book| book.remove(serial));
-    assert_eq!(number(loaded.remove(serial)), removed);
-    let confirmed = change(&mut naive, |book| book.confirm(serial));
-    assert_eq!(number(loaded.confirm(serial)), confirmed);
-}
-
-/// The book of the file is the one that the naive loader reads.
-fn same_book(bytes: &[u8], naive: &NaiveBook) {
-    let mut loaded = Book::from_bytes(bytes).unwrap();
-    let first = naive.live.keys().next().copied().unwrap_or(1);
-    for serial in [0, first, first.wrapping_add(1), naive.grants] {
-        same_refusals(&mut loaded, naive, serial);
-    }
-    assert_eq!(loaded.bytes(), encode(naive));
-    // To another crew no order is its own: a loaded circuit is the desk's.
-    for crew in [DESK, 1, 999] {
-        for serial in [0, naive.grants, naive.grants.wrapping_add(1)]
-            .iter()
-            .chain(naive.live.keys())
-        {
-            assert_eq!(
-                loaded.show(*serial, Crew(crew)).map_err(|r| r.number),
-                naive.show(*serial, crew)
-            );
-        }
-        for (link, colour) in [
-            (0, 0),
-            (naive.n - 1, naive.w - 1),
-            (naive.n, 0),
-            (0, naive.w),
-        ] {
-            assert_eq!(
-                loaded
-                    .holder(link, colour, Crew(crew))
-                    .map_err(|r| r.number),
-                naive.holder(link, colour, crew)
-            );
-        }
-    }
+    let (files, name) = (FILES.len(), form.name);
+    println!("{changes} changes of one byte in {files} files of the {name} form refused");
 }
 
 #[test]
-fn damaged_files_get_the_naive_verdict() {
-    let mut random = Random::new(8);
-    let mut verdicts: BTreeMap<u16, usize> = BTreeMap::new();
+fn every_changed_byte_is_refused() {
+    every_changed_byte(&NEW_FORM, &mut Random::new(7));
+}
+
+#[test]
+fn every_changed_byte_of_an_old_file_is_refused() {
+    every_changed_byte(&OLD_FORM, &mut Random::new(17));
+}
+
+/// Damaged files, most of them with their checks put right again; gives how often each verdict came.
+fn damaged_files(form: &Form, random: &mut Random) -> BTreeMap<u16, usize> {
+    let mut verdicts = BTreeMap::new();
     for _ in 0..250 {
         let n = 3 + random.below(254) as u16;
         let w = 1 + random.below(128) as u16;
-        let live = random.below(200).min(n as u64 * w as u64 / 8);
-        let form = encode(&book(&mut random, n, w, live as usize));
+        let records = random.below(200).min(n as u64 * w as u64 / 8);
+        let whole = (form.encode)(&(form.draw)(random, n, w, records as usize));
         for _ in 0..120 {
-            let mut bytes = form.clone();
+            let mut bytes = whole.clone();
             for _ in 0..=random.below(3) {
-                damage(&mut random, &mut bytes);
+                damage(random, &form.layout, &mut bytes);
             }
             match random.below(32) {
                 0 => {}
                 1 => bytes.truncate(random.below(bytes.len() as u64) as usize),
-                _ => repair(&mut bytes),
+                _ => seal(&mut bytes),
             }
-            if bytes == form {
+            if bytes == whole {
                 continue;
             }
-            let want = load(&bytes);
-            assert_eq!(verdict(&bytes), want.as_ref().err().copied());
+            let want = (form.load)(&bytes);
+            assert_eq!((form.verdict)(&bytes), want.as_ref().err().copied());
             if let Ok(naive) = &want {
-                same_book(&bytes, naive);
+                same_book(&(form.loaded)(&bytes).unwrap(), naive);
             }
             *verdicts.entry(want.err().unwrap_or(0)).or_default() += 1;
         }
     }
+    verdicts
+}
+
+/// One line; each verdict must have come often.
+fn report(form: &Form, verdicts: BTreeMap<u16, usize>) {
     let count = |number: u16| verdicts.get(&number).copied().unwrap_or(0);
-    assert!(
-        [0, 18, 19, 20].iter().all(|&number| count(number) >= 100),
-        "{verdicts:?}"
-    );
-    println!(
-        "damaged files: {} loaded, {} refused 18, {} refused 19, {} refused 20",
-        count(0),
-        count(18),
-        count(19),
-        count(20)
-    );
+    let [loaded, length, check, broken] = [0, 18, 19, 20].map(count);
+    let least = [loaded, length, check, broken].into_iter().min();
+    assert!(least >= Some(100), "{verdicts:?}");
+    let name = form.name;
+    println!("damaged files of the {name} form: {loaded} loaded, {length} refused 18, {check} refused 19, {broken} refused 20");
+}
+
+#[test]
+fn damaged_files_get_the_naive_verdict() {
+    let verdicts = damaged_files(&NEW_FORM, &mut Random::new(8));
+    report(&NEW_FORM, verdicts);
+}
+
+#[test]
+fn damaged_old_files_get_the_naive_verdict() {
+    let verdicts = damaged_files(&OLD_FORM, &mut Random::new(18));
+    report(&OLD_FORM, verdicts);
 }
 
 #[test]
 fn lengths() {
     let mut random = Random::new(9);
     let mut tried = 0;
-    let empty = encode(&NaiveBook::open(3, 1).unwrap());
-    let full = encode(&book(&mut random, 256, 128, 512));
-    assert_eq!((empty.len(), full.len()), (512, 5120));
-    for form in [empty, full, vec![0; 5120]] {
-        let mut bytes = form.clone();
-        bytes.resize(5632, 0);
-        for length in
-            (0..bytes.len() + 1).filter(|&k| k % 64 == 0 || k % 512 == 1 || k % 512 == 511)
-        {
-            let got = verdict(&bytes[..length]);
-            assert_eq!(got, load(&bytes[..length]).err(), "{length} bytes");
-            let whole = length % 512 == 0 && (1..=10).contains(&(length / 512));
-            assert_eq!(got == Some(18), !whole, "{length} bytes");
-            tried += 1;
+    for form in [NEW_FORM, OLD_FORM] {
+        let most = form.layout.longest;
+        let empty = (form.encode)(&(form.draw)(&mut random, 3, 1, 0));
+        let full = (form.encode)(&(form.draw)(&mut random, 256, 128, 512));
+        assert_eq!((empty.len(), full.len()), (512, most));
+        for whole in [empty, full, vec![0; most]] {
+            let mut bytes = whole.clone();
+            bytes.resize(most + 1024, 0);
+            let near = |k: &usize| k % 64 == 0 || k % 512 == 1 || k % 512 == 511;
+            for length in (0..bytes.len() + 1).filter(near) {
+                let got = (form.verdict)(&bytes[..length]);
+                let want = (form.load)(&bytes[..length]);
+                assert_eq!(got, want.err(), "{length} bytes");
+                let possible = length % 512 == 0 && (512..=most).contains(&length);
+                assert_eq!(got == Some(18), !possible, "{length} bytes");
+                tried += 1;
+            }
         }
     }
     println!("{tried} files by their length");
+}
+
+/// The length of each form for each number of records.
+#[test]
+fn lengths_of_forms() {
+    let mut random = Random::new(19);
+    let book = (OLD_FORM.draw)(&mut random, 256, 128, 512);
+    for count in 0..=512 {
+        let mut some = book.clone();
+        some.live = book.live.clone().into_iter().take(count).collect();
+        for (form, in_block) in [(NEW_FORM, 42), (OLD_FORM, 63)] {
+            let bytes = (form.encode)(&some);
+            assert_eq!(bytes.len(), 512 + 512 * count.div_ceil(in_block));
+            assert_eq!((form.verdict)(&bytes), None, "{count} records");
+        }
+    }
 }

@@ -1,4 +1,5 @@
-//! Removals that leave their records pending, and confirmations that free them, told call by call on the proved book in memory.
+//! Removals that leave their records pending, and confirmations that free them, told call by call on the proved book, in memory and in a
+//! buffer.
 mod calls;
 mod programs;
 mod reference;

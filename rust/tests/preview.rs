@@ -6,8 +6,9 @@ use std::collections::BTreeMap;
 
 use bundles::{agree, call, in_numbers, told, MARK};
 use reference::books::{many, Asked, NaiveBook, Previewed, DESK};
-use reference::draws::{draw_bundle, draw_grant};
-use reference::stored::{change, encode};
+use reference::draws::{draw_book, draw_bundle};
+use reference::old::encode_old;
+use reference::stored::encode;
 use reference::Random;
 use ring_planner::buffers;
 
@@ -16,30 +17,23 @@ fn preview(naive: &NaiveBook, lines: &[Asked]) -> Previewed {
     agree(naive, lines, 19).unwrap()
 }
 
-/// A book with a history of grants to the desk, and of removals that were confirmed.
-fn draw_book(random: &mut Random) -> NaiveBook {
+/// A book with a history of grants, removals and confirmations.
+fn any_book(random: &mut Random) -> NaiveBook {
     let small = random.below(2) == 0;
     let n = 3 + random.below(if small { 8 } else { 254 }) as u16;
     let w = 1 + random.below(if small { 3 } else { 128 }) as u16;
-    let mut naive = NaiveBook::open(n, w).unwrap();
-    for _ in 0..random.below(if small { 12 } else { 300 }) {
-        let asked = draw_grant(random, n, w);
-        if let Ok(serial) = change(&mut naive, |naive| naive.grant(asked)) {
-            if random.below(3) == 0 {
-                naive.lapse(serial).unwrap();
-            }
-        }
-    }
-    naive
+    let most = (n as u64 / 8).max(2) * w as u64;
+    let records = random.below(most.min(200) + 1);
+    draw_book(random, n, w, records as usize)
 }
 
 #[test]
 fn bundles_are_grants_on_a_copy() {
     let mut random = Random::new(12);
     let mut stops: BTreeMap<u16, usize> = BTreeMap::new();
-    let (mut inside, mut others, mut tried) = (0, 0, 0);
+    let [mut inside, mut others, mut pending, mut tried] = [0; 4];
     for _ in 0..300 {
-        let naive = draw_book(&mut random);
+        let naive = any_book(&mut random);
         for _ in 0..12 {
             let lines = draw_bundle(&mut random, naive.n, naive.w);
             let answer = agree(&naive, &lines, random.below(24) as usize);
@@ -51,6 +45,10 @@ fn bundles_are_grants_on_a_copy() {
             if let Ok((_, Some((line, 11)))) = answer {
                 let alone = naive.clone().grant(lines[line]);
                 inside += alone.is_ok() as usize;
+                let mut confirmed = naive.clone();
+                confirmed.pending.clear();
+                let stop = confirmed.preview(&lines).unwrap().1;
+                pending += (stop != Some((line, 11))) as usize;
             }
             if let Ok((serials, _)) = answer {
                 let granted = &lines[..serials.len()];
@@ -62,8 +60,11 @@ fn bundles_are_grants_on_a_copy() {
     let often = |number: &u16| stops.get(number).is_some_and(|&count| count >= 10);
     assert!([0, 4, 5, 9, 10, 11, 22, 26].iter().all(often), "{stops:?}");
     assert!(inside >= 50, "{inside} stopped by an earlier line");
+    assert!(pending >= 50, "{pending} stopped by a pending record");
     assert!(others >= 50, "{others} lines granted to other crews");
-    println!("{tried} bundles, {inside} stopped by an earlier line, {others} lines granted to other crews");
+    println!(
+        "{tried} bundles, {inside} stopped by an earlier line, {pending} by a pending record, {others} lines granted to other crews"
+    );
 }
 
 #[test]
@@ -185,9 +186,11 @@ fn a_broken_book_comes_first() {
     let files = [
         (vec![], 18),
         (form[..form.len() - 1].to_vec(), 18),
-        (vec![0; 5632], 18),
+        (vec![0; 7680], 18),
+        (vec![0; 5632], 19),
         (damaged, 19),
         (form[..1024].to_vec(), 20),
+        (encode_old(&many(70, 70)), 20),
         (vec![0; 512], 20),
     ];
     let good = free_lines(17).concat();

@@ -9,25 +9,27 @@ use desk::{
 use reference::books::many;
 use reference::stored::encode;
 
-/// Every command, as far as a file can follow: what a removal leaves cannot be stored, nor what is granted to another crew than the desk.
+/// Every command.
 #[rustfmt::skip]
-const SESSION: [(&str, &str); 44] = [
+const SESSION: [(&str, &str); 55] = [
     ("count", "error there is no book yet (open N W begins one)"),
     ("confirm 1", "error there is no book yet (open N W begins one)"),
     ("pending", "error there is no book yet (open N W begins one)"),
+    ("revision", "error there is no book yet (open N W begins one)"),
     ("preview 0 2 0 0", "error there is no book yet (open N W begins one)"),
     ("grant 0 2 0 0 1000", "error there is no book yet (open N W begins one)"),
     ("open 4 1", "opened 4 1"),
+    ("revision", "revision 0"),
     ("open 4 1", "error there is a book in the file already"),
     ("grant 0 2 0 0", "granted 1"),
     ("grant 3 2 0 0 0", "granted 2"),
+    ("revision", "revision 2"),
     ("preview 0 3 1 0", "would grant 3"),
     ("preview 0 3 1 0 7", "would grant 3"),
     ("preview 3 0 1 0, 0 3 1 0 0, 9 9 9 9", "would grant 3, line 1 refused 11 that colour is held on a link of the way"),
     ("preview 3 0 1 0 999, 0 3 1 0 1000, 9 9 9 9", "would grant 3, line 1 refused 26 crew above 999"),
     ("preview 4 0 0 0", "would grant none, line 0 refused 4 an end is n or more"),
     ("preview", "refused 22 no line or more than 16"),
-    ("grant 3 0 1 0 7", "refused 25 a record that is pending or whose crew is not 0 cannot be stored"),
     ("grant 3 0 1 0 1000", "refused 26 crew above 999"),
     ("grant 1 3 0 0 7", "refused 11 that colour is held on a link of the way"),
     ("holder 2 0", "held 2"),
@@ -37,25 +39,34 @@ const SESSION: [(&str, &str); 44] = [
     ("holder 3 0", "free"),
     ("holder 3 0 7", "free"),
     ("show 2", "circuit 2 3 P 0"),
-    ("show 2 0", "circuit 2 3 P 0"),
     ("show 2 7", "refused 14 serial 0 or never given"),
     ("show 2 1000", "refused 26 crew above 999"),
     ("list", "order 1 0 2 P 0\norder 2 2 3 P 0"),
-    ("remove 1", "refused 25 a record that is pending or whose crew is not 0 cannot be stored"),
     ("remove 3", "refused 14 serial 0 or never given"),
     ("confirm 1", "refused 23 the circuit is live"),
     ("confirm 3", "refused 14 serial 0 or never given"),
     ("pending", ""),
+    ("remove 1", "removed 1"),
+    ("revision", "revision 3"),
+    ("remove 1", "refused 15 removed"),
+    ("show 1", "refused 15 removed"),
+    ("pending", "order 1 0 2 P 0"),
     ("grant 0 1 0 0", "refused 11 that colour is held on a link of the way"),
     ("holder 0 0", "held 1"),
-    ("preview 3 0 1 0", "would grant 3"),
-    ("grant 3 0 1 0", "granted 3"),
+    ("confirm 1", "confirmed 1"),
+    ("confirm 1", "refused 24 already confirmed"),
+    ("revision", "revision 3"),
+    ("holder 0 0", "free"),
+    ("grant 3 0 1 0 7", "granted 3"),
     ("show 3", "circuit 0 3 S 0"),
-    ("show 3 7", "refused 14 serial 0 or never given"),
+    ("show 3 7", "circuit 0 3 S 0"),
+    ("show 3 8", "refused 14 serial 0 or never given"),
     ("holder 3 0", "held 3"),
-    ("holder 3 0 7", "held"),
-    ("list", "order 1 0 2 P 0\norder 2 2 3 P 0\norder 3 0 3 S 0"),
-    ("count", "live 3 grants 3"),
+    ("holder 3 0 7", "held 3"),
+    ("holder 3 0 8", "held"),
+    ("list", "order 2 2 3 P 0\norder 3 0 3 S 0"),
+    ("count", "live 2 grants 3"),
+    ("revision", "revision 4"),
 ];
 
 /// The lines, each with its line feed; an answer without a line is empty.
@@ -96,7 +107,7 @@ const WITHOUT_BOOK: [(&str, u16); 4] = [
 
 /// Refused by a book of 256 nodes, 4 colours, 512 live circuits and 600 grants so far: the file no longer has orders 513 to 600.
 #[rustfmt::skip]
-const FULL_BOOK: [(&str, u16); 41] = [
+const FULL_BOOK: [(&str, u16); 40] = [
     ("grant 256 256 2 4", 4), ("grant 256 256 2 4 1000", 4),
     ("grant 7 7 2 4", 5), ("grant 7 7 2 4 1000", 5),
     ("grant 7 8 2 4", 9), ("grant 7 8 2 4 1000", 9),
@@ -105,7 +116,7 @@ const FULL_BOOK: [(&str, u16); 41] = [
     ("grant 7 8 0 0", 11), ("grant 7 8 0 0 999", 11),
     ("grant 0 255 1 3", 12), ("grant 0 255 1 3 999", 12),
     ("preview", 22),
-    ("remove 0", 14), ("remove 601", 14), ("remove 600", 15), ("remove 513", 15), ("remove 512", 25),
+    ("remove 0", 14), ("remove 601", 14), ("remove 600", 15), ("remove 513", 15),
     ("confirm 0", 14), ("confirm 601", 14), ("confirm 65535", 14), ("confirm 1", 23), ("confirm 512", 23),
     ("confirm 513", 24), ("confirm 600", 24),
     ("show 0", 14), ("show 65535", 14), ("show 513", 15),
@@ -138,45 +149,45 @@ fn every_refusal() {
     }
     assert_eq!(
         folder.answer("list\n"),
-        NaiveDesk(Some(many(512, 600))).answers("list\n")
+        NaiveDesk::of(&many(512, 600)).answers("list\n")
     );
     println!("{} refusals by text", WITHOUT_BOOK.len() + FULL_BOOK.len());
 }
 
-/// Answers of a book with 65,534 grants so far, one after another: the last serial goes to the desk, since no other grant can be stored.
-const LATE_BOOK: [(&str, u16); 8] = [
-    ("grant 7 8 0 0 1", 25),
-    ("grant 7 8 0 0", 0),
-    ("grant 8 9 0 0", 13),
-    ("grant 8 9 0 0 999", 13),
-    ("grant 8 9 0 0 1000", 26),
-    ("remove 65535", 25),
-    ("confirm 65535", 23),
-    ("confirm 65534", 24),
+/// Answers of a book with 65,534 grants so far, one after another.
+#[rustfmt::skip]
+const LATE_BOOK: [(&str, &str); 10] = [
+    ("grant 7 8 0 0 1", "granted 65535"),
+    ("grant 8 9 0 0", "refused 13 serial 65,535 has been given"),
+    ("grant 8 9 0 0 999", "refused 13 serial 65,535 has been given"),
+    ("grant 8 9 0 0 1000", "refused 26 crew above 999"),
+    ("revision", "revision 131064"),
+    ("confirm 65535", "refused 23 the circuit is live"),
+    ("confirm 65534", "refused 24 already confirmed"),
+    ("remove 65535", "removed 65535"),
+    ("revision", "revision 131065"),
+    ("count", "live 5 grants 65535"),
 ];
 
 #[test]
-fn refusals_of_a_late_book() {
+fn a_late_book() {
     let folder = Folder::new("late");
     folder.put("book", &Some(encode(&many(5, 65534))));
-    for (command, number) in LATE_BOOK {
-        let want = match number {
-            0 => "granted 65535\n".to_string(),
-            _ => refused(number),
-        };
-        assert_eq!(folder.answer(&format!("{command}\n")), want, "{command}");
+    for (command, want) in LATE_BOOK {
+        let answer = folder.answer(&format!("{command}\n"));
+        assert_eq!(answer, format!("{want}\n"), "{command}");
     }
-    assert_eq!(folder.answer("count\n"), "live 6 grants 65535\n");
 }
 
 /// Lines that are no command.
 #[rustfmt::skip]
-const BROKEN: [&str; 61] = [
+const BROKEN: [&str; 64] = [
     "Count", "count 1", "counts", "show", "show ", "show 1 1 1", "show 000001", "show 65536", "show 99999",
     "show 100000", "show -1", "show +1", "show 1a", "show 0x1", "show\t1", "show 1\r", "show 1\0",
     "show \u{663}", "sh ow 1", "open 4", "open 4 1 1", "grant 0 1 0", "grant 0 1 0 0 0 0", "grant 0 1 P 0",
     "remove", "holder 1", "holder 1 1 1 1", "help me", "lists", "\t", "close", "previews", "preview 1", "preview 1 2 0",
     "confirm", "confirm 1 1", "confirm1", "confirmed 1", "pending 1", "pendings", "Pending",
+    "revision 1", "revisions", "Revision",
     "preview 1 2 0 0 0 0", "preview ,", "preview 1 2 0 0,", "preview ,1 2 0 0", "preview 1 2 0 0, 2 3 0",
     "preview 1 2 0 0,,2 3 0 0", "preview 1 2 0 0 , 2 3 0 0", "preview 1 2 0 0 2 3 0 0", "preview 1,2,0,0",
     "preview 1 2 0 0, 2 3 0 65536", "preview,1 2 0 0",
@@ -229,7 +240,7 @@ fn as_people_type() {
     let names: Vec<&str> = HELP.lines().map(|l| l.split(' ').next().unwrap()).collect();
     assert_eq!(
         names.join(" "),
-        "open grant preview remove confirm show holder count list pending help"
+        "open grant preview remove confirm show holder count revision list pending help"
     );
 }
 

@@ -5,7 +5,7 @@ mod reference;
 
 use std::os::unix::process::ExitStatusExt;
 
-use crash::{desk_of, found_after, next_session_works, stories, Story};
+use crash::{desk_of, found_after, next_session_works, old_desk_of, stories, Story};
 use desk::{Folder, NaiveDesk};
 
 /// Kills the program before each of its calls in turn, in the way that the word says; gives the number of kills.
@@ -53,13 +53,14 @@ fn on_disk_before_it_is_said() {
     let question = "open read read close say";
     let cases = [
         ("grant 0 2 0 9", change),
+        ("grant 0 2 0 9 7", change),
+        ("remove 7", change),
         ("grant 0 1 0 0", refused),
         ("remove 71", refused),
-        ("remove 7", refused),
-        ("grant 0 2 0 9 7", refused),
         ("grant 0 2 0 9 1000", refused),
         ("confirm 7", refused),
         ("count", question),
+        ("revision", question),
         ("show 7 7", question),
         ("holder 0 0 7", question),
         ("preview 0 2 0 9, 2 4 0 9 7", question),
@@ -68,8 +69,10 @@ fn on_disk_before_it_is_said() {
         ("help", "say"),
     ];
     for (line, want) in cases {
-        let calls = Story::new(desk_of(70), &[line]).calls(&folder);
-        assert_eq!(calls.join(" "), want, "{line}");
+        for desk in [desk_of(70), old_desk_of(70)] {
+            let calls = Story::new(desk, &[line]).calls(&folder);
+            assert_eq!(calls.join(" "), want, "{line}");
+        }
     }
     let opening = Story::new(NaiveDesk::default(), &["open 4 1"]).calls(&folder);
     assert_eq!(opening.join(" "), change.replace("read read close ", ""));

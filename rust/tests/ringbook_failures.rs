@@ -34,7 +34,8 @@ fn follow(story: &Story, output: &str) -> (NaiveDesk, Vec<String>) {
             desk = next;
             continue;
         }
-        let asked = ["count", "show"].iter().any(|word| line.starts_with(word));
+        let questions = ["count", "show", "revision"];
+        let asked = questions.iter().any(|word| line.starts_with(word));
         if answer.starts_with("error the change is in book but is not known to be on disk") {
             assert!(next != desk, "{line}{answer}");
             desk = next;
@@ -81,7 +82,7 @@ fn a_call_that_fails() {
                 if others.is_empty() {
                     assert!(may_go_unnoticed(&calls, k), "{name} failed unnoticed");
                 } else {
-                    // What follows from it may be answered otherwise too, as `show 64` after a grant that was not stored.
+                    // What follows from it may be answered otherwise too, as `show 43` after a grant that was not stored.
                     assert!(others[0].ends_with(&format!(": {ground}\n")), "{others:?}");
                     assert_eq!(others.len(), 1, "{others:?}");
                     let unsure = others[0].contains("is not known to be on disk");
@@ -217,11 +218,11 @@ fn a_new_file_that_goes_away_in_time() {
 #[test]
 fn a_new_file_that_cannot_be_removed() {
     let folder = Folder::new("stuck");
-    let story = Story::new(desk_of(70), &["remove 7", "count", "grant 0 2 0 9"]);
+    let story = Story::new(desk_of(70), &["confirm 7", "count", "grant 0 2 0 9"]);
     let calls = story.calls(&folder);
     let place = calls.iter().position(|call| call == "unlink").unwrap();
     let run = story.run(&folder, &format!("fail {place} 5"));
-    let want = story.desk.clone().answers("remove 7\ncount\n") + &busy("book");
+    let want = story.desk.clone().answers("confirm 7\ncount\n") + &busy("book");
     assert_eq!(run.output, want);
     assert_eq!(folder.bytes("book"), story.desk.bytes());
     assert!(folder.bytes("book.new").is_some());

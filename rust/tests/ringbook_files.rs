@@ -8,38 +8,56 @@ use std::os::unix::fs::{symlink, MetadataExt, PermissionsExt};
 use std::os::unix::process::{CommandExt, ExitStatusExt};
 use std::process::{Command, Stdio};
 
-use desk::{busy, refused, run, Folder, BOOK_THERE, HELP, NO_BOOK};
+use desk::{busy, refused, run, Folder, NaiveDesk, BOOK_THERE, HELP, NO_BOOK};
+use reference::blocks::seal;
 use reference::books::{many, NaiveBook};
+use reference::old::encode_old;
 use reference::stored::encode;
+
+/// Files that hold no book in either form, and the refusal of each.
+fn broken_files() -> Vec<(Vec<u8>, u16)> {
+    let (form, old) = (encode(&many(70, 70)), encode_old(&many(70, 70)));
+    let mut files = vec![
+        (vec![], 18),
+        (vec![0; 7169], 18),
+        (vec![0; 7680], 18),
+        (vec![0; 1 << 20], 18),
+        // Too long for the old form alone.
+        (vec![0; 5632], 19),
+        (vec![0; 512], 20),
+    ];
+    for form in [form, old] {
+        let damaged = |at: usize| {
+            let mut bytes = form.clone();
+            bytes[at] ^= 1;
+            bytes
+        };
+        files.push((form[..form.len() - 1].to_vec(), 18));
+        files.push(([&form[..], b"\n"].concat(), 18));
+        files.push((damaged(0), 19));
+        files.push((damaged(form.len() - 1), 19));
+        files.push((form[..1024].to_vec(), 20));
+        // With right checks: a mark of neither form, a serial 0, equal ends.
+        for at in [8, 512, 514] {
+            let mut bytes = damaged(at);
+            seal(&mut bytes);
+            files.push((bytes, 20));
+        }
+    }
+    files
+}
 
 #[test]
 fn files_that_are_no_book() {
     let folder = Folder::new("files");
-    let form = encode(&many(70, 70));
-    let damaged = |at: usize| {
-        let mut bytes = form.clone();
-        bytes[at] ^= 1;
-        bytes
-    };
-    let files = [
-        (vec![], 18),
-        (form[..form.len() - 1].to_vec(), 18),
-        ([&form[..], b"\n"].concat(), 18),
-        (vec![0; 5121], 18),
-        (vec![0; 5632], 18),
-        (vec![0; 1 << 20], 18),
-        (damaged(0), 19),
-        (damaged(form.len() - 1), 19),
-        (form[..1024].to_vec(), 20),
-        (vec![0; 512], 20),
-    ];
     let commands = "open 4 1\ngrant 0 1 0 0\npreview 0 1 0 0\npreview\nremove 1\nconfirm 1\nshow 1\nholder 0 0\ncount\nlist\npending\n\
-grant 0 1 0 0 1000\npreview 0 1 0 0 1000\nshow 1 1\nshow 1 1000\nholder 0 0 1\nholder 0 0 1000\n";
+revision\ngrant 0 1 0 0 1000\npreview 0 1 0 0 1000\nshow 1 1\nshow 1 1000\nholder 0 0 1\nholder 0 0 1000\n";
     let count = commands.lines().count();
-    for (bytes, number) in files {
+    for (bytes, number) in broken_files() {
         let file = Some(bytes);
         folder.put("book", &file);
         assert_eq!(folder.answer(commands), refused(number).repeat(count));
+        assert_eq!(NaiveDesk(file.clone()).answers("count\n"), refused(number));
         assert_eq!(folder.answer("\nhelp\n"), HELP, "no file is needed");
         assert_eq!(folder.bytes("book"), file, "the file stays");
         assert_eq!(folder.bytes("book.new"), None);
@@ -173,10 +191,11 @@ fn questions_leave_the_file_alone() {
     folder.put("book", &Some(encode(&many(70, 90))));
     let inode = || fs::metadata(folder.file("book")).unwrap().ino();
     let before = inode();
-    folder.answer("show 1\nholder 0 0\ncount\nlist\npending\ngrant 0 0 0 0\nopen 3 1\nnonsense\n");
-    folder.answer("remove 80\nremove 1\nconfirm 91\nconfirm 1\nconfirm 80\n");
-    folder
-        .answer("show 1 7\nholder 0 0 7\ngrant 0 1 0 3 7\ngrant 0 1 0 3 1000\npreview 0 1 0 3 7\n");
+    folder.answer(
+        "show 1\nholder 0 0\ncount\nlist\npending\nrevision\ngrant 0 0 0 0\nopen 3 1\nno\n",
+    );
+    folder.answer("remove 80\nremove 0\nconfirm 91\nconfirm 1\nconfirm 80\n");
+    folder.answer("show 1 7\nholder 0 0 7\ngrant 0 1 0 3 1000\npreview 0 1 0 3 7\n");
     folder.answer("preview 0 1 0 3\npreview 0 1 0 3, 0 1 0 3\npreview 0 0 0 0\npreview\n");
     assert_eq!(inode(), before);
     // A question waits for nobody.

@@ -75,7 +75,7 @@ fn answer_on(folder: &Folder, book: &NaiveBook, line: &str) -> String {
     folder.put("book.new", &new);
     let input = format!("{line}\n");
     let answer = folder.answer(&input);
-    assert_eq!(answer, NaiveDesk(Some(book.clone())).answers(&input));
+    assert_eq!(answer, NaiveDesk(form.clone()).answers(&input));
     assert_eq!(folder.bytes("book"), form, "{line}");
     assert_eq!(folder.bytes("book.new"), new, "{line}");
     answer
@@ -176,7 +176,7 @@ fn random_bundles_are_what_the_grants_say() {
     let (mut bundles, mut grants) = (0, 0);
     for (n, w) in [(5, 2), (16, 4), (200, 100)] {
         let folder = Folder::new("tried");
-        let mut naive = NaiveDesk(NaiveBook::open(n, w).ok());
+        let mut naive = NaiveDesk::of(&NaiveBook::open(n, w).unwrap());
         folder.put("book", &naive.bytes());
         for _ in 0..8 {
             let (mut input, mut want) = (String::new(), String::new());

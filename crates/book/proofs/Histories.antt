@@ -8,7 +8,6 @@ use native.Mathlib.Numerals.{add-one}
 use lib.Dec.{eqb}
 use lib.ListN.{length, take, drop, set}
 use borrow.Author.Tests.{eqb-false}
-use Rattle.ring.specs.declared.refusals.Verdict.{Verdict}
 use Rattle.ring.specs.declared.refusals.Verdict.the-variants as verdict
 use Rattle.ring.specs.Admission.{ringVerdict}
 use Rattle.ring.proofs.Cases.{test, same, different}
@@ -21,7 +20,7 @@ use Rattle.book.specs.declared.removals.RemoveAnswer.the-variants as rem
 use Rattle.book.specs.declared.confirmations.ConfirmAnswer.the-variants as confirm
 use Rattle.book.specs.Circuits.{liveState, asPending, circuit}
 use Rattle.book.specs.Books.{recordsOf, liveIn, liveOf, bookOf, Valid}
-use Rattle.book.specs.Grants.{circuitOf, grantVerdict, withCircuit, grantUnless, granted}
+use Rattle.book.specs.Grants.{circuitOf, withCircuit}
 use Rattle.book.specs.Orders.{shownTo}
 use Rattle.book.specs.Removals.{withRecord}
 use Rattle.book.specs.Confirmations.{without, withoutCircuit}
@@ -31,8 +30,8 @@ use Rattle.book.specs.History.{ShowAnswered, HolderAnswered, event, afte
 use Rattle.book.specs.History.{removals, confirmations, downFrom}
 use Rattle.book.proofs.Opening.{opened-valid}
 use Rattle.book.proofs.Forms.{records-form, valid-records, with-form, record-form, without-form}
-use Rattle.book.proofs.Outcomes.{removal-cases, confirmation-cases}
-use Rattle.book.proofs.Verdicts.{GoodGrant, good-grant}
+use Rattle.book.proofs.Outcomes.{grant-cases, removal-cases, confirmation-cases}
+use Rattle.book.proofs.Verdicts.{GoodGrant}
 use Rattle.book.proofs.States.{asGranted, live-granted, live-snoc, live-set, live-without}
 use Rattle.book.proofs.Validity.{with-valid, removal-valid, confirmation-valid}
 use Rattle.book.proofs.Standings.{Standing, Unknown, IsLive, IsPending, Gone, standsAs, standing, standingOf}
@@ -217,16 +216,11 @@ nothing : (e : Event) (s : ℕ) → gave e s ≡ false → removes e s ≡ false
 nothing e s g r c f = record { no-grant = g; no-gift = f; no-removal = r; no-confirmation = c }
 
 kept-after : (n w : ℕ) (h : List Event) (b : Book) → Kept n w h b → (call : Call) → Kept n w (event b call ∷ h) (after b call)
-unfolding granted
-kept-after n w h b k (Grant x y way colour crew) = go (grantVerdict b x y way colour crew) (good-grant b x y way colour crew)
-  where
-    go : (t : Verdict) → (t ≡ verdict.Allowed → GoodGrant b x y way colour crew)
-        → Kept n w (GrantAnswered x y way colour crew (grantUnless t b (circuitOf (b .grants + 1) x y way colour crew) .answer) ∷ h)
-        (grantUnless t b (circuitOf (b .grants + 1) x y way colour crew) .book)
-    go verdict.Allowed g = kept-granted n w h b k x y way colour crew (g refl)
-    go (verdict.Refused r) g =
-        kept-same n w h b k (GrantAnswered x y way colour crew (grant.Refused r)) refl refl refl
-        (λ s. nothing _ s refl refl refl (λ c p. p))
+kept-after n w h b k (Grant x y way colour crew) =
+    grant-cases b x y way colour crew (λ d. Kept n w (GrantAnswered x y way colour crew (d .answer) ∷ h) (d .book))
+    (kept-granted n w h b k x y way colour crew)
+    (λ r. kept-same n w h b k (GrantAnswered x y way colour crew (grant.Refused r)) refl refl refl
+    (λ t. nothing _ t refl refl refl (λ c p. p)))
 kept-after n w h b k (Remove s) =
     removal-cases b s (λ d. Kept n w (RemoveAnswered s (d .answer) ∷ h) (d .book))
     (λ i l serial live.

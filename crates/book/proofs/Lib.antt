@@ -1,6 +1,7 @@
 -- The laws that the functions' proofs cite, and the theorems whose statements stand in specs/:
 -- Sameness (SameMeans), ConflictLaws (ConflictMeans), Validity (KeepsValid), PreviewLaws (PreviewSays), PlaceLaws (PlacesUsedAgain),
--- NoNodeLaws (TurnsAllDown), EveryHistory, Readings (DeskReads, Isolation).
+-- NoNodeLaws (TurnsAllDown), EveryHistory, Readings (DeskReads, Isolation), RevisionLaws (RevisionRises, RevisionCounts), RevisionMoments
+-- (NotRevived).
 pub mod Places
 pub mod Forms
 pub mod States
@@ -30,3 +31,5 @@ pub mod PlaceLaws
 pub mod Histories
 pub mod EveryHistory
 pub mod Readings
+pub mod RevisionLaws
+pub mod RevisionMoments

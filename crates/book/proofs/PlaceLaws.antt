@@ -31,9 +31,8 @@ use Rattle.book.specs.Removals.{withRecord, removed}
 use Rattle.book.specs.Confirmations.{without, withoutCircuit, confirmed}
 use Rattle.book.specs.Places.{TakesVacantPlace, vacantPlaces, PlacesUsedAgain}
 use Rattle.book.proofs.Forms.{records-form, valid-records, without-form, record-form, length-without}
-use Rattle.book.proofs.Outcomes.{removal-cases, confirmation-cases}
+use Rattle.book.proofs.Outcomes.{grant-cases, removal-cases, confirmation-cases}
 use Rattle.book.proofs.Validity.{removal-valid, confirmation-valid}
-use Rattle.book.proofs.Verdicts.{good-grant}
 
 -- ---- counting
 
@@ -84,20 +83,14 @@ module _ (b : Book) (v : Valid b) where
 module _ (b : Book) (v : Valid b) where
   takes : (x y way colour crew serial : ℕ) → granted b x y way colour crew .answer ≡ grant.Granted serial
       → TakesVacantPlace b (granted b x y way colour crew .book) (circuitOf serial x y way colour crew)
-  unfolding granted
-  takes x y way colour crew serial e = go (grantVerdict b x y way colour crew) refl e
-    where
-      go : (t : Verdict) → grantVerdict b x y way colour crew ≡ t
-          → grantUnless t b (circuitOf (b .grants + 1) x y way colour crew) .answer ≡ grant.Granted serial
-          → TakesVacantPlace b (grantUnless t b (circuitOf (b .grants + 1) x y way colour crew) .book)
-          (circuitOf serial x y way colour crew)
-      go verdict.Allowed q f =
-          let s : b .grants + 1 ≡ serial = cc in
-          subst
-          (λ (k : ℕ). TakesVacantPlace b (withCircuit b (circuitOf (b .grants + 1) x y way colour crew))
-          (circuitOf k x y way colour crew)) s
-          (with-place b v (circuitOf (b .grants + 1) x y way colour crew) (good-grant b x y way colour crew q .places))
-      go (verdict.Refused r) q f = impossible (cc)
+  takes x y way colour crew serial =
+      grant-cases b x y way colour crew
+      (λ d. d .answer ≡ grant.Granted serial → TakesVacantPlace b (d .book) (circuitOf serial x y way colour crew))
+      (λ good e. let s : b .grants + 1 ≡ serial = cc in
+      subst
+      (λ (k : ℕ). TakesVacantPlace b (withCircuit b (circuitOf (b .grants + 1) x y way colour crew)) (circuitOf k x y way colour crew)) s
+      (with-place b v (circuitOf (b .grants + 1) x y way colour crew) (good .places)))
+      (λ r e. impossible (cc))
 
   -- a removal leaves as many records
   as-many : (i : ℕ) → i < length (recordsOf b)

@@ -1,7 +1,7 @@
 -- What the crews read: the desk as before, another crew by its own orders and by what is held.
 use Prim.Native.Nat.{ℕ, zero, suc, _+_, _<_}
 use mathlib.Core.Path.{_≡_, refl, sym, _∙_, ap}
-use mathlib.Core.Bool.{Bool, true, false, cond, _||_}
+use mathlib.Core.Bool.{Bool, true, false, cond, _&&_, _||_}
 use mathlib.Core.List.{List, [], _∷_}
 use native.Mathlib.Omega.{arith}
 use lib.Dec.{eqb, leb}
@@ -18,13 +18,15 @@ use Rattle.book.specs.declared.circuits.Circuit.{Circuit}
 use Rattle.book.specs.declared.books.Book.{Book}
 use Rattle.book.specs.declared.orders.Lookup.{Lookup}
 use Rattle.book.specs.declared.orders.Lookup.the-variants.{Found, Missing}
+use Rattle.book.specs.declared.orders.ShowAnswer.the-variants as show
 use Rattle.book.specs.declared.holders.HolderAnswer.{HolderAnswer}
 use Rattle.book.specs.declared.holders.HolderAnswer.the-variants as holder
-use Rattle.book.specs.Circuits.{desk, circuit, someCircuit, holds}
+use Rattle.book.specs.Circuits.{isLive, desk, circuit, someCircuit, holds}
 use Rattle.book.specs.Books.{recordsOf, Valid}
 use Rattle.book.specs.Crews.{crewVerdict, isOwn, ordersIn}
 use Rattle.book.specs.Grants.{heldIn}
-use Rattle.book.specs.Orders.{neverGiven, lookupIn, lookup, showFound, shown, ownFound, ownShown, showUnless, shownTo}
+use Rattle.book.specs.Orders.{neverGiven, lookupIn, lookup, liveFound, missing, showFound, shown, ownFound, ownShown, showUnless}
+use Rattle.book.specs.Orders.{shownTo}
 use Rattle.book.specs.Holders.{toldTo, holderIn, holderVerdict, holderUnless, heldBy, heldFor}
 use Rattle.book.specs.Isolation.{DeskReads, AlikeFor, Isolation}
 use Rattle.book.proofs.Holding.{none-holds}
@@ -33,6 +35,31 @@ use Rattle.book.proofs.StandingChanges.{given-not}
 pub desk-reads : (b : Book) → DeskReads b
 unfolding shownTo heldFor heldBy crewVerdict
 desk-reads b = record { orders = λ serial. refl; holders = λ link colour. refl }
+
+-- a crew is shown no circuit that the desk is not shown: its own must be live
+pub shown-desk : (crew : ℕ) (b : Book) (s : ℕ) (c : Circuit) → shownTo crew b s ≡ show.Shown c → shown b s ≡ show.Shown c
+unfolding shownTo shown ownShown
+shown-desk crew b s c = verdicts (crewVerdict crew)
+  where
+    lives : (i : ℕ) (d : Circuit) (t u : Bool) → showFound (cond (t && u) (Found i d) Missing) SerialNeverGiven ≡ show.Shown c
+        → showFound (cond t (Found i d) Missing) (missing b s) ≡ show.Shown c
+    lives i d true true e = e
+    lives i d true false e = impossible (cc)
+    lives i d false u e = impossible (cc)
+
+    own : (l : Lookup) → showFound (ownFound crew l) SerialNeverGiven ≡ show.Shown c
+        → showFound (liveFound l) (missing b s) ≡ show.Shown c
+    own (Found i d) e = lives i d (isLive d) (eqb (d .crew) crew) e
+    own Missing e = impossible (cc)
+
+    read : (t : Bool) → cond t (shown b s) (ownShown crew b s) ≡ show.Shown c → shown b s ≡ show.Shown c
+    read true e = e
+    read false e = own (lookup b s) e
+
+    verdicts : (v : Verdict) → showUnless v (cond (eqb crew desk) (shown b s) (ownShown crew b s)) ≡ show.Shown c
+        → shown b s ≡ show.Shown c
+    verdicts Allowed e = read (eqb crew desk) e
+    verdicts (Refused r) e = impossible (cc)
 
 -- ---- a crew's orders stand for the records
 

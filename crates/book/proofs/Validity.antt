@@ -7,8 +7,6 @@ use native.Mathlib.Omega.{arith}
 use lib.Dec.{eqb}
 use lib.ListN.{length, set}
 use borrow.Author.Tests.{eqb-true}
-use Rattle.ring.specs.declared.refusals.Verdict.{Verdict}
-use Rattle.ring.specs.declared.refusals.Verdict.the-variants as verdict
 use Rattle.ring.specs.Requests.{requestOf}
 use Rattle.ring.specs.Ways.{uses}
 use Rattle.ring.proofs.Cases.{and-true}
@@ -17,7 +15,7 @@ use Rattle.book.specs.declared.circuits.Circuit.{Circuit}
 use Rattle.book.specs.declared.books.Book.{Book}
 use Rattle.book.specs.Circuits.{asPending, circuit, holds}
 use Rattle.book.specs.Books.{recordsOf, bookOf, Valid, ValidCircuits}
-use Rattle.book.specs.Grants.{wayOf, circuitOf, heldIn, heldOnWay, colourHeld, grantVerdict, withCircuit, grantUnless, granted}
+use Rattle.book.specs.Grants.{wayOf, circuitOf, heldIn, heldOnWay, colourHeld, withCircuit, granted}
 use Rattle.book.specs.Removals.{withRecord, removed}
 use Rattle.book.specs.Confirmations.{without, withoutCircuit, confirmed}
 use Rattle.book.specs.History.{KeepsValid}
@@ -26,8 +24,8 @@ use Rattle.book.proofs.Forms.{records-form, valid-records, with-form, w
 use Rattle.book.proofs.CircuitLists.{snoc-length, all-snoc, pairs-snoc, all-without, pairs-without}
 use Rattle.book.proofs.ConflictLaws.{true-and, holds-held}
 use Rattle.book.proofs.States.{pending-alike, alike-valid}
-use Rattle.book.proofs.Outcomes.{removal-cases, confirmation-cases}
-use Rattle.book.proofs.Verdicts.{GoodGrant, good-grant}
+use Rattle.book.proofs.Outcomes.{grant-cases, removal-cases, confirmation-cases}
+use Rattle.book.proofs.Verdicts.{GoodGrant}
 
 -- the book with valid circuits
 pub valid-of : (n w g : ℕ) (cs : List Circuit) → (3 ≤ n) × (n ≤ 256) → (1 ≤ w) × (w ≤ 128) → g ≤ 65535 → ValidCircuits n w g cs
@@ -119,13 +117,8 @@ module _ (b : Book) (v : Valid b) where
 
   -- the operations
   pub grant-valid : (x y way colour crew : ℕ) → Valid (granted b x y way colour crew .book)
-  unfolding granted
-  grant-valid x y way colour crew = go (grantVerdict b x y way colour crew) (good-grant b x y way colour crew)
-    where
-      go : (t : Verdict) → (t ≡ verdict.Allowed → GoodGrant b x y way colour crew)
-          → Valid (grantUnless t b (circuitOf (b .grants + 1) x y way colour crew) .book)
-      go verdict.Allowed g = with-valid x y way colour crew (g refl)
-      go (verdict.Refused r) g = v
+  grant-valid x y way colour crew =
+      grant-cases b x y way colour crew (λ d. Valid (d .book)) (with-valid x y way colour crew) (λ r. v)
 
   pub remove-valid : (s : ℕ) → Valid (removed b s .book)
   remove-valid s = removal-cases b s (λ d. Valid (d .book)) (λ i h serial live. removal-valid i h) (λ r. v)

@@ -12,4 +12,5 @@ pub mod Places
 pub mod NoNodes
 pub mod History
 pub mod Isolation
+pub mod Revisions
 pub mod Internal

@@ -9,6 +9,7 @@ pub mod holders;
 pub mod orders;
 pub mod previews;
 pub mod removals;
+pub mod revisions;
 
 pub use books::Book;
 pub use books::open;
@@ -22,3 +23,4 @@ pub use orders::show;
 pub use previews::Previewed;
 pub use previews::preview;
 pub use removals::remove;
+pub use revisions::revision;

@@ -20,7 +20,7 @@ use Rattle.book.specs.declared.confirmations.ConfirmAnswer.{ConfirmAnswer}
 use Rattle.book.specs.declared.confirmations.ConfirmAnswer.the-variants as confirm
 use Rattle.book.specs.declared.orders.ShowAnswer.{ShowAnswer}
 use Rattle.book.specs.declared.holders.HolderAnswer.{HolderAnswer}
-use Rattle.book.specs.Books.{hasMarked, Valid, opened}
+use Rattle.book.specs.Books.{Valid, opened}
 use Rattle.book.specs.Grants.{granted}
 use Rattle.book.specs.Removals.{removed}
 use Rattle.book.specs.Confirmations.{confirmed}
@@ -30,8 +30,8 @@ use Rattle.book.proofs.Validity.{keeps-valid}
 use Rattle.stored.specs.declared.loads.Loaded.{Loaded}
 use Rattle.stored.specs.declared.loads.LoadAnswer.{LoadAnswer}
 use Rattle.stored.specs.declared.loads.LoadAnswer.the-variants as load
-use Rattle.stored.specs.Loading.{loaded}
-use Rattle.stored.proofs.Promised.{loads-only-forms}
+use Rattle.stored.specs.Loading.{loaded, loadedOld}
+use Rattle.stored.proofs.Promised.{loads-only-forms, loads-only-old-forms}
 use Rattle.ring.proofs.Cases.{impossible}
 use Rattle.book_text.specs.declared.lines.Command.{Command}
 use Rattle.book_text.specs.declared.lines.Command.the-variants as command
@@ -41,19 +41,23 @@ use Rattle.book_text.specs.declared.answers.Contents.{Contents}
 use Rattle.book_text.specs.declared.answers.Reply.{Reply}
 use Rattle.book_text.specs.declared.answers.Reply.the-variants as reply
 use Rattle.book_text.specs.declared.answers.Answered.{Answered}
-use Rattle.book_text.specs.Answers.{stateOf, contentsIn, ValidContents, storing, openingBy, grantingBy, removingBy, confirmingBy}
+use Rattle.book_text.specs.Answers.{foundOld, foundIn, contentsIn, ValidContents, openingBy, grantingBy, removingBy, confirmingBy}
 use Rattle.book_text.specs.Answers.{showingBy, holdingBy, openingAnswer, grantAnswer, removeAnswer, confirmAnswer, showReply}
 use Rattle.book_text.specs.Answers.{holderReply, turnedDown, answeredNone, answeredBook, answeredIn, answered}
 
--- what a file holds, from what load answers
+-- what a file holds, from what the loads answer
 pub find-none : (present : Bool) (bytes : List ℕ) {o : Opened} → present ≡ false → o ≡ opened 0 0
     → record { state = Absent; book = o .book } ≡ contentsIn present bytes
 unfolding opened ringVerdict
 find-none present bytes e q = rw (e, q) refl
 
-pub find-some : (present : Bool) (bytes : List ℕ) {l : Loaded} {a : LoadAnswer} → present ≡ true → l ≡ loaded bytes → l .answer ≡ a
-    → record { state = stateOf a; book = l .book } ≡ contentsIn present bytes
+pub find-some : (present : Bool) (bytes : List ℕ) {l : Loaded} {a : LoadAnswer} → present ≡ true → l ≡ loaded 0 bytes → l .answer ≡ a
+    → foundIn bytes a (l .book) ≡ contentsIn present bytes
 find-some present bytes e q p = rw (e, ← q, p) refl
+
+pub find-old : (bytes : List ℕ) (r : Refusal) {l : Loaded} {a : LoadAnswer} → l ≡ loadedOld bytes → l .answer ≡ a
+    → foundOld r a (l .book) ≡ foundOld r (loadedOld bytes .answer) (loadedOld bytes .book)
+find-old bytes r q p = rw (← q, p) refl
 
 -- each command, from the book's own answer
 module _ (b : Book) where
@@ -92,11 +96,15 @@ valid-found false bytes e = absurd-state e
   where
     absurd-state : {A : Type 0} → Absent ≡ Sound → A
     absurd-state q = let z : true ≡ false = cc in impossible z
-valid-found true bytes e = loads-only-forms bytes (sound (loaded bytes .answer) e) .valid
+valid-found true bytes e = go (loaded 0 bytes .answer) refl e
   where
-    sound : (a : LoadAnswer) → stateOf a ≡ Sound → a ≡ load.Loaded
-    sound load.Loaded q = refl
-    sound (load.Refused r) q = let z : true ≡ false = cc in impossible z
+    old : (r : Refusal) (a : LoadAnswer) → loadedOld bytes .answer ≡ a → ValidContents (foundOld r a (loadedOld bytes .book))
+    old r load.Loaded q e = loads-only-old-forms bytes q .valid
+    old r (load.Refused p) q e = let z : true ≡ false = cc in impossible z
+
+    go : (a : LoadAnswer) → loaded 0 bytes .answer ≡ a → ValidContents (foundIn bytes a (loaded 0 bytes .book))
+    go load.Loaded q e = loads-only-forms 0 bytes q .valid
+    go (load.Refused r) q e = old r (loadedOld bytes .answer) refl e
 
 -- a preview is replied only about a book that was found
 abbrev previews : Reply → Bool
@@ -110,6 +118,7 @@ previews reply.Free = false
 previews reply.Held = false
 previews (reply.HeldBy serial) = false
 previews (reply.Count live grants) = false
+previews reply.Revision = false
 previews reply.Orders = false
 previews reply.PendingOrders = false
 previews (reply.Refused r) = false
@@ -133,6 +142,7 @@ none-previews b (command.Confirm serial) = refl
 none-previews b (command.Show serial crew) = refl
 none-previews b (command.Holder link colour crew) = refl
 none-previews b command.Count = refl
+none-previews b command.Revision = refl
 none-previews b command.List = refl
 none-previews b command.Pending = refl
 none-previews b (command.Aside a) = refl
@@ -146,53 +156,37 @@ broken-previews b r (command.Confirm serial) = refl
 broken-previews b r (command.Show serial crew) = refl
 broken-previews b r (command.Holder link colour crew) = refl
 broken-previews b r command.Count = refl
+broken-previews b r command.Revision = refl
 broken-previews b r command.List = refl
 broken-previews b r command.Pending = refl
 broken-previews b r (command.Aside a) = refl
 
--- the book of an answer: the one that was there, or an accepted one whose records are live and the desk's
-module _ (P : Book → Type 0) (b : Book) (old : P b) where
-  after-storing : (next : Book) (reply : Reply) → (hasMarked next ≡ false → P next) → P (storing (hasMarked next) b next reply .book)
-  after-storing next reply new = go (hasMarked next) refl
-    where
-      go : (t : Bool) → hasMarked next ≡ t → P (storing t b next reply .book)
-      go true e = old
-      go false e = new e
-
-  pub after-answer : ((x y way colour crew : ℕ) → let d = granted b x y way colour crew .book in hasMarked d ≡ false → P d)
-      → ((serial : ℕ) → let d = removed b serial .book in hasMarked d ≡ false → P d)
-      → ((serial : ℕ) → let d = confirmed b serial .book in hasMarked d ≡ false → P d) → (c : Command) → P (answeredBook b c .book)
-  after-answer g r f (command.Open n w) = old
-  after-answer g r f (command.Grant x y way colour crew) = go (granted b x y way colour crew .answer)
-    where
-      go : (a : GrantAnswer) → P (grantingBy b a (granted b x y way colour crew .book) .book)
-      go (grant.Granted serial) = after-storing (granted b x y way colour crew .book) (reply.Granted serial) (g x y way colour crew)
-      go (grant.Refused q) = old
-  after-answer g r f command.Preview = old
-  after-answer g r f (command.Remove serial) = go (removed b serial .answer)
-    where
-      go : (a : RemoveAnswer) → P (removingBy b serial a (removed b serial .book) .book)
-      go remove.Removed = after-storing (removed b serial .book) (reply.Removed serial) (r serial)
-      go (remove.Refused q) = old
-  after-answer g r f (command.Confirm serial) = go (confirmed b serial .answer)
-    where
-      go : (a : ConfirmAnswer) → P (confirmingBy b serial a (confirmed b serial .book) .book)
-      go confirm.Confirmed = after-storing (confirmed b serial .book) (reply.Confirmed serial) (f serial)
-      go (confirm.Refused q) = old
-  after-answer g r f (command.Show serial crew) = old
-  after-answer g r f (command.Holder link colour crew) = old
-  after-answer g r f command.Count = old
-  after-answer g r f command.List = old
-  after-answer g r f command.Pending = old
-  after-answer g r f (command.Aside a) = old
-
+-- the book of an answer: the one that was there, or an accepted one
 pub book-valid : (b : Book) → Valid b → (c : Command) → Valid (answeredBook b c .book)
-book-valid b v c =
-    after-answer Valid b v (λ x y way colour crew e. keeps-valid .granting b v x y way colour crew)
-    (λ serial e. keeps-valid .removing b v serial) (λ serial e. keeps-valid .confirming b v serial) c
-
-pub book-unmarked : (b : Book) → hasMarked b ≡ false → (c : Command) → hasMarked (answeredBook b c .book) ≡ false
-book-unmarked b e c = after-answer (λ d. hasMarked d ≡ false) b e (λ x y way colour crew h. h) (λ serial h. h) (λ serial h. h) c
+book-valid b v (command.Open n w) = v
+book-valid b v (command.Grant x y way colour crew) = go (granted b x y way colour crew .answer)
+  where
+    go : (a : GrantAnswer) → Valid (grantingBy b a (granted b x y way colour crew .book) .book)
+    go (grant.Granted serial) = keeps-valid .granting b v x y way colour crew
+    go (grant.Refused q) = v
+book-valid b v command.Preview = v
+book-valid b v (command.Remove serial) = go (removed b serial .answer)
+  where
+    go : (a : RemoveAnswer) → Valid (removingBy b serial a (removed b serial .book) .book)
+    go remove.Removed = keeps-valid .removing b v serial
+    go (remove.Refused q) = v
+book-valid b v (command.Confirm serial) = go (confirmed b serial .answer)
+  where
+    go : (a : ConfirmAnswer) → Valid (confirmingBy b serial a (confirmed b serial .book) .book)
+    go confirm.Confirmed = keeps-valid .confirming b v serial
+    go (confirm.Refused q) = v
+book-valid b v (command.Show serial crew) = v
+book-valid b v (command.Holder link colour crew) = v
+book-valid b v command.Count = v
+book-valid b v command.Revision = v
+book-valid b v command.List = v
+book-valid b v command.Pending = v
+book-valid b v (command.Aside a) = v
 
 pub previewed-valid : (contents : Contents) (c : Command) → ValidContents contents → {r : Answered} → r ≡ answered contents c
     → r .reply ≡ reply.Previewed → Valid (r .book)

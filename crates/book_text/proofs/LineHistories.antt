@@ -3,6 +3,7 @@ use Prim.Native.Nat.{ℕ}
 use mathlib.Core.Path.{_≡_, refl, sym, _∙_, ap}
 use mathlib.Core.Bool.{Bool, true, false, cond}
 use mathlib.Core.List.{List, [], _∷_}
+use native.Mathlib.Omega.{arith}
 use Rattle.ring.specs.declared.refusals.Refusal.{Refusal}
 use Rattle.ring.specs.declared.refusals.Verdict.{Verdict}
 use Rattle.ring.specs.declared.refusals.Verdict.the-variants as verdict
@@ -18,34 +19,34 @@ use Rattle.book.specs.declared.removals.RemoveAnswer.{RemoveAnswer}
 use Rattle.book.specs.declared.removals.RemoveAnswer.the-variants as remove
 use Rattle.book.specs.declared.confirmations.ConfirmAnswer.{ConfirmAnswer}
 use Rattle.book.specs.declared.confirmations.ConfirmAnswer.the-variants as confirm
-use Rattle.book.specs.Circuits.{someCircuit}
-use Rattle.book.specs.Books.{hasMarked, Valid, bookOf, opened}
+use Rattle.book.specs.Books.{Valid, bookOf, opened}
 use Rattle.book.specs.Grants.{grantVerdict, grantUnless, granted}
 use Rattle.book.specs.Removals.{removed}
 use Rattle.book.specs.Confirmations.{confirmed}
-use Rattle.book.specs.History.{Call, Grant, Remove, Confirm, Show, Holder, after, run}
-use Rattle.book.proofs.Opening.{opened-book}
+use Rattle.book.specs.History.{Call, run}
 use Rattle.book.proofs.Outcomes.{removal-cases, confirmation-cases}
 use Rattle.book.proofs.EveryHistory.{every-history}
+use Rattle.stored.specs.declared.forms.Form.the-variants.{New}
 use Rattle.stored.specs.declared.loads.Loaded.{Loaded}
+use Rattle.stored.specs.declared.loads.LoadAnswer.{LoadAnswer}
+use Rattle.stored.specs.declared.loads.LoadAnswer.the-variants as load
 use Rattle.stored.specs.Forms.{storedForm}
-use Rattle.stored.proofs.Promised.{reads-back}
+use Rattle.stored.specs.Loading.{loaded, loadedOld}
+use Rattle.stored.proofs.Promised.{reads-back, one-form}
 use Rattle.stored.proofs.StoredHistories.{stored-histories}
 use Rattle.book_text.specs.declared.lines.Command.{Command}
 use Rattle.book_text.specs.declared.lines.Command.the-variants as command
 use Rattle.book_text.specs.declared.answers.State.{State}
 use Rattle.book_text.specs.declared.answers.State.the-variants.{Absent, Broken, Sound}
-use Rattle.book_text.specs.declared.answers.Reply.{Reply}
-use Rattle.book_text.specs.declared.answers.Reply.the-variants as reply
+use Rattle.book_text.specs.declared.answers.Contents.{Contents}
 use Rattle.book_text.specs.declared.answers.Answered.{Answered}
 use Rattle.book_text.specs.declared.obeying.Need.the-variants.{Writing}
 use Rattle.book_text.specs.Lines.{commandOf}
 use Rattle.book_text.specs.Needs.{needOf}
-use Rattle.book_text.specs.Answers.{stateOf, only, storing, openingBy, grantingBy, removingBy, confirmingBy, showReply}
-use Rattle.book_text.specs.Answers.{holderReply, answeredNone, answeredBook, answeredIn, answered}
+use Rattle.book_text.specs.Answers.{found, foundOld, foundIn, contentsIn, openingBy, grantingBy, removingBy, confirmingBy}
+use Rattle.book_text.specs.Answers.{answeredNone, answeredBook, answeredIn, answered}
 use Rattle.book_text.specs.Promises.{File, none, holding, contentsOf, obeyed, fileAfter, OnlyWritingChanges}
-use Rattle.book_text.specs.Histories.{fileAfterAll, called, unstored, callsOf, FileHolds, LineHistories}
-use Rattle.book_text.proofs.AnswerLaws.{book-unmarked}
+use Rattle.book_text.specs.Histories.{fileAfterAll, called, callsOf, FileHolds, OldFile, LineHistories}
 
 -- what changes the book is a command that writes
 changing : (s : State) (b : Book) (c : Command) → answeredIn s b c .changes ≡ true → needOf c ≡ Writing
@@ -65,6 +66,9 @@ changing Sound b (command.Holder link colour crew) e = impossible (sym e)
 changing Absent b command.Count e = impossible (sym e)
 changing (Broken r) b command.Count e = impossible (sym e)
 changing Sound b command.Count e = impossible (sym e)
+changing Absent b command.Revision e = impossible (sym e)
+changing (Broken r) b command.Revision e = impossible (sym e)
+changing Sound b command.Revision e = impossible (sym e)
 changing Absent b command.List e = impossible (sym e)
 changing (Broken r) b command.List e = impossible (sym e)
 changing Sound b command.List e = impossible (sym e)
@@ -97,34 +101,10 @@ confirm-left : (b : Book) (serial : ℕ) (r : Refusal) → confirmed b serial .a
 confirm-left b serial r =
     confirmation-cases b serial (λ d. d .answer ≡ confirm.Refused r → d .book ≡ b) (λ i l named pending e. impossible (cc)) (λ q e. refl)
 
--- what an answer leaves of a book that calls led to: the book after one call more, or after none if it is not stored
+-- what an answer leaves of a book that calls led to: the book after its call, and as it was where nothing changes
 record Leads (o : Book) (calls : List Call) (c : Command) (x : Answered) : Type 0 where
-  pub book : x .book ≡ run o (cond (unstored (x .reply)) calls (called c calls))
+  pub book : x .book ≡ run o (called c calls)
   pub file : x .changes ≡ false → x .book ≡ run o calls
-
-module _ (o : Book) (calls : List Call) (c : Command) (call : Call) (is-call : called c calls ≡ call ∷ calls) where
-  abbrev b : Book
-  b = run o calls
-
-  either : (t : Bool) → cond t b (after b call) ≡ run o (cond t calls (called c calls))
-  either true = refl
-  either false = ap (run o) (sym is-call)
-
-  -- a reply that changes nothing, where the call changes nothing
-  leads-only : (r : Reply) → after b call ≡ b → Leads o calls c (only b r)
-  leads-only r e = record { book = same (unstored r) ∙ either (unstored r); file = λ q. refl }
-    where
-      same : (t : Bool) → b ≡ cond t b (after b call)
-      same true = refl
-      same false = sym e
-
-  -- a change that the book accepts
-  leads-storing : (r : Reply) → unstored r ≡ false → Leads o calls c (storing (hasMarked (after b call)) b (after b call) r)
-  leads-storing r e = go (hasMarked (after b call))
-    where
-      go : (t : Bool) → Leads o calls c (storing t b (after b call) r)
-      go true = record { book = refl; file = λ q. refl }
-      go false = record { book = sym (ap (λ (t : Bool). cond t b (after b call)) e) ∙ either (unstored r); file = λ q. impossible q }
 
 leads : (o : Book) (calls : List Call) (c : Command) → Leads o calls c (answeredBook (run o calls) c)
 leads o calls (command.Open n w) = record { book = refl; file = λ q. refl }
@@ -135,11 +115,8 @@ leads o calls (command.Grant x y way colour crew) = go (granted b x y way colour
 
     go : (a : GrantAnswer) → granted b x y way colour crew .answer ≡ a
         → Leads o calls (command.Grant x y way colour crew) (grantingBy b a (granted b x y way colour crew .book))
-    go (grant.Granted serial) e =
-        leads-storing o calls (command.Grant x y way colour crew) (Grant x y way colour crew) refl (reply.Granted serial) refl
-    go (grant.Refused r) e =
-        leads-only o calls (command.Grant x y way colour crew) (Grant x y way colour crew) refl (reply.Refused r)
-        (grant-left b x y way colour crew r e)
+    go (grant.Granted serial) e = record { book = refl; file = λ q. impossible q }
+    go (grant.Refused r) e = record { book = sym (grant-left b x y way colour crew r e); file = λ q. refl }
 leads o calls command.Preview = record { book = refl; file = λ q. refl }
 leads o calls (command.Remove serial) = go (removed b serial .answer) refl
   where
@@ -148,8 +125,8 @@ leads o calls (command.Remove serial) = go (removed b serial .answer) refl
 
     go : (a : RemoveAnswer) → removed b serial .answer ≡ a
         → Leads o calls (command.Remove serial) (removingBy b serial a (removed b serial .book))
-    go remove.Removed e = leads-storing o calls (command.Remove serial) (Remove serial) refl (reply.Removed serial) refl
-    go (remove.Refused r) e = leads-only o calls (command.Remove serial) (Remove serial) refl (reply.Refused r) (remove-left b serial r e)
+    go remove.Removed e = record { book = refl; file = λ q. impossible q }
+    go (remove.Refused r) e = record { book = sym (remove-left b serial r e); file = λ q. refl }
 leads o calls (command.Confirm serial) = go (confirmed b serial .answer) refl
   where
     b : Book
@@ -157,17 +134,20 @@ leads o calls (command.Confirm serial) = go (confirmed b serial .answer) refl
 
     go : (a : ConfirmAnswer) → confirmed b serial .answer ≡ a
         → Leads o calls (command.Confirm serial) (confirmingBy b serial a (confirmed b serial .book))
-    go confirm.Confirmed e = leads-storing o calls (command.Confirm serial) (Confirm serial) refl (reply.Confirmed serial) refl
-    go (confirm.Refused r) e =
-        leads-only o calls (command.Confirm serial) (Confirm serial) refl (reply.Refused r) (confirm-left b serial r e)
-leads o calls (command.Show serial crew) =
-    leads-only o calls (command.Show serial crew) (Show serial crew) refl (showReply (run o calls) serial crew) refl
-leads o calls (command.Holder link colour crew) =
-    leads-only o calls (command.Holder link colour crew) (Holder link colour crew) refl (holderReply (run o calls) link colour crew) refl
+    go confirm.Confirmed e = record { book = refl; file = λ q. impossible q }
+    go (confirm.Refused r) e = record { book = sym (confirm-left b serial r e); file = λ q. refl }
+leads o calls (command.Show serial crew) = record { book = refl; file = λ q. refl }
+leads o calls (command.Holder link colour crew) = record { book = refl; file = λ q. refl }
 leads o calls command.Count = record { book = refl; file = λ q. refl }
+leads o calls command.Revision = record { book = refl; file = λ q. refl }
 leads o calls command.List = record { book = refl; file = λ q. refl }
 leads o calls command.Pending = record { book = refl; file = λ q. refl }
 leads o calls (command.Aside a) = record { book = refl; file = λ q. refl }
+
+-- the file after a line, from what the line does
+file-left : (file : File) (line : List ℕ) {x : Answered} → obeyed file line ≡ x
+    → fileAfter file line ≡ cond (x .changes) (holding (storedForm New (x .book))) file
+file-left file line e = ap (λ (y : Answered). cond (y .changes) (holding (storedForm New (y .book))) file) e
 
 -- a line that opens a book where there is no file
 opened-so : (n w : ℕ) → ringVerdict n w ≡ verdict.Allowed → opened n w .answer ≡ opening.Opened
@@ -175,78 +155,84 @@ unfolding opened
 opened-so n w e = rw e refl
 
 pub file-opened : (n w : ℕ) → ringVerdict n w ≡ verdict.Allowed → (line : List ℕ) → commandOf line ≡ command.Open n w
-    → fileAfter none line ≡ holding (storedForm (opened n w .book))
+    → fileAfter none line ≡ holding (storedForm New (opened n w .book))
 unfolding answered
 file-opened n w allowed line e =
-    ap (λ (x : Answered). cond (x .changes) (holding (storedForm (x .book))) none)
+    file-left none line
     (ap (answeredNone (bookOf 0 0 0 [])) e
     ∙ ap (λ (a : OpenAnswer). openingBy (bookOf 0 0 0 []) n w a (opened n w .book)) (opened-so n w allowed))
 
-pub opened-unmarked : (n w : ℕ) → ringVerdict n w ≡ verdict.Allowed → hasMarked (opened n w .book) ≡ false
-unfolding hasMarked someCircuit
-opened-unmarked n w e = ap hasMarked (opened-book n w e)
-
 -- a file that holds the book that calls led to answers as it does
-module _ (o : Book) (calls : List Call) (v : Valid (run o calls)) (unmarked : hasMarked (run o calls) ≡ false) (line : List ℕ) where
+module _ (o : Book) (calls : List Call) (v : Valid (run o calls)) (line : List ℕ) where
+  abbrev file : File
+  file = holding (storedForm New (run o calls))
+
   abbrev x : Answered
   x = answeredBook (run o calls) (commandOf line)
 
-  pub answers-book : obeyed (holding (storedForm (run o calls))) line ≡ x
+  pub answers-book : obeyed file line ≡ x
   unfolding answered
-  answers-book = ap (λ (l : Loaded). answeredIn (stateOf (l .answer)) (l .book) (commandOf line)) (reads-back (run o calls) v unmarked)
+  answers-book =
+      ap (λ (l : Loaded). let there = foundIn (storedForm New (run o calls)) (l .answer) (l .book) in
+      answeredIn (there .state) (there .book) (commandOf line)) (reads-back (run o calls) v 0 (omega arith))
 
   -- and then holds the book of the answer
-  pub file-next : fileAfter (holding (storedForm (run o calls))) line ≡ holding (storedForm (x .book))
-  file-next = ap (λ (y : Answered). cond (y .changes) (holding (storedForm (y .book))) (holding (storedForm (run o calls)))) answers-book
-      ∙ go (x .changes) refl
+  pub file-next : fileAfter file line ≡ holding (storedForm New (x .book))
+  file-next = file-left file line answers-book ∙ go (x .changes) refl
     where
-      go : (t : Bool) → x .changes ≡ t
-          → cond t (holding (storedForm (x .book))) (holding (storedForm (run o calls))) ≡ holding (storedForm (x .book))
+      go : (t : Bool) → x .changes ≡ t → cond t (holding (storedForm New (x .book))) file ≡ holding (storedForm New (x .book))
       go true e = refl
-      go false e = ap (λ (d : Book). holding (storedForm d)) (sym (leads o calls (commandOf line) .file e))
+      go false e = ap (λ (d : Book). holding (storedForm New d)) (sym (leads o calls (commandOf line) .file e))
 
 -- lines to a file that holds an opened book
 module _ (n w : ℕ) (allowed : ringVerdict n w ≡ verdict.Allowed) where
   abbrev o : Book
   o = opened n w .book
 
-  record Stands (calls : List Call) (file : File) : Type 0 where
-    pub there : file ≡ holding (storedForm (run o calls))
-    pub unmarked : hasMarked (run o calls) ≡ false
-
-  stands-next : (calls : List Call) (file : File) (line : List ℕ) → Stands calls file
-      → Stands (cond (unstored (obeyed file line .reply)) calls (called (commandOf line) calls)) (fileAfter file line)
-  stands-next calls file line s =
-      let v = every-history n w allowed calls .valid in
-      let answer : obeyed file line ≡ answeredBook (run o calls) (commandOf line) =
-      ap (λ (f : File). obeyed f line) (s .there) ∙ answers-book o calls v (s .unmarked) line in
-      let next : answeredBook (run o calls) (commandOf line) .book
-      ≡ run o (cond (unstored (obeyed file line .reply)) calls (called (commandOf line) calls)) =
-      leads o calls (commandOf line) .book
-      ∙ ap (λ (y : Answered). run o (cond (unstored (y .reply)) calls (called (commandOf line) calls))) (sym answer) in
-      record {
-        there = ap (λ (f : File). fileAfter f line) (s .there) ∙ file-next o calls v (s .unmarked) line
-            ∙ ap (λ (d : Book). holding (storedForm d)) next;
-        unmarked = ap hasMarked (sym next) ∙ book-unmarked (run o calls) (s .unmarked) (commandOf line);
-      }
-
-  stands-after : (lines : List (List ℕ)) → let file = holding (storedForm o) in Stands (callsOf file lines) (fileAfterAll file lines)
-  stands-after [] = record { there = refl; unmarked = opened-unmarked n w allowed }
+  stands-after : (lines : List (List ℕ))
+      → fileAfterAll (holding (storedForm New o)) lines ≡ holding (storedForm New (run o (callsOf lines)))
+  stands-after [] = refl
   stands-after (line ∷ lines) =
-      let file = holding (storedForm o) in
-      stands-next (callsOf file lines) (fileAfterAll file lines) line (stands-after lines)
+      ap (λ (f : File). fileAfter f line) (stands-after lines)
+      ∙ file-next o (callsOf lines) (every-history n w allowed (callsOf lines) .valid) line
+      ∙ ap (λ (d : Book). holding (storedForm New d)) (leads o (callsOf lines) (commandOf line) .book)
 
-  file-holds : (calls : List Call) (file : File) → Stands calls file → FileHolds n w calls file
-  file-holds calls file s = record {
-    bytes = storedForm (run o calls);
-    there = s .there;
-    stored = stored-histories n w allowed calls (s .unmarked);
-    answers = λ line. ap (λ (f : File). obeyed f line) (s .there)
-        ∙ answers-book o calls (every-history n w allowed calls .valid) (s .unmarked) line;
+  file-holds : (calls : List Call) (file : File) → file ≡ holding (storedForm New (run o calls)) → FileHolds n w calls file
+  file-holds calls file there = record {
+    bytes = storedForm New (run o calls);
+    there = there;
+    stored = stored-histories n w allowed calls;
+    answers = λ line. ap (λ (f : File). obeyed f line) there ∙ answers-book o calls (every-history n w allowed calls .valid) line;
   }
+
+-- a file in the old form
+module _ (bytes : List ℕ) (e : loadedOld bytes .answer ≡ load.Loaded) where
+  abbrev b : Book
+  b = loadedOld bytes .book
+
+  old-found : contentsIn true bytes ≡ found b
+  old-found = go (loaded 0 bytes .answer) refl
+    where
+      go : (a : LoadAnswer) → loaded 0 bytes .answer ≡ a → foundIn bytes a (loaded 0 bytes .book) ≡ found b
+      go load.Loaded q = absurd (one-form 0 bytes q e)
+      go (load.Refused r) q = ap (λ (a : LoadAnswer). foundOld r a b) e
+
+  old-answers : (line : List ℕ) → obeyed (holding bytes) line ≡ answeredBook b (commandOf line)
+  unfolding answered
+  old-answers line = ap (λ (there : Contents). answeredIn (there .state) (there .book) (commandOf line)) old-found
+
+  old-left : (line : List ℕ) {t : Bool} → answeredBook b (commandOf line) .changes ≡ t
+      → fileAfter (holding bytes) line ≡ cond t (holding (storedForm New (answeredBook b (commandOf line) .book))) (holding bytes)
+  old-left line q =
+      file-left (holding bytes) line (old-answers line)
+      ∙ ap (λ (t : Bool). cond t (holding (storedForm New (answeredBook b (commandOf line) .book))) (holding bytes)) q
+
+  old-file : OldFile bytes b
+  old-file = record { answers = old-answers; changed = λ line q. old-left line q; left = λ line q. old-left line q }
 
 pub line-histories : LineHistories
 line-histories = record {
   opening = file-opened;
   lines = λ n w allowed lines. file-holds n w allowed _ _ (stands-after n w allowed lines);
+  old = old-file;
 }

@@ -12,12 +12,14 @@ use Rattle.ring.proofs.Cases.{impossible}
 use Rattle.texts.specs.Internal.Writing.{Wrote}
 use Rattle.texts.proofs.WritingLaws.{wrote-front, wrote-length}
 use Rattle.book.specs.declared.books.Book.{Book}
-use Rattle.book.specs.Books.{Valid}
+use Rattle.book.specs.Books.{recordsOf, Valid}
 use Rattle.book.proofs.Places.{records-length}
+use Rattle.stored.specs.declared.forms.Form.the-variants.{New}
 use Rattle.stored.specs.declared.stores.StoreAnswer.{StoreAnswer}
 use Rattle.stored.specs.declared.stores.StoreAnswer.the-variants as store
 use Rattle.stored.specs.Forms.{storedForm}
 use Rattle.stored.specs.Storing.{lengthOf, formAnswer, afterForm}
+use Rattle.stored.proofs.FormLaws.{later-few}
 use Rattle.stored.proofs.StoreLaws.{form-length, store-answer, store-copied}
 use Rattle.book_text.specs.declared.lines.Command.{Command}
 use Rattle.book_text.specs.declared.answers.Contents.{Contents}
@@ -29,34 +31,32 @@ use Rattle.book_text.specs.Replies.{replyText}
 use Rattle.book_text.specs.Promises.{File, fileOf, contentsOf, obeyed, Told, ObeyPromise}
 use Rattle.book_text.proofs.AnswerLaws.{valid-found, previewed-valid}
 
--- every stored form has at most 5,120 bytes
-module _ (b : Book) (places : length (b .places) ≡ 512) (form : List ℕ) (room : 5120 ≤ length form) where
-  form-room : lengthOf b ≤ length form
-  form-room =
-      let live = records-length b places in
-      omega arith
+-- every new form has at most 7,168 bytes
+module _ (b : Book) (places : length (b .places) ≡ 512) (form : List ℕ) (room : 7168 ≤ length form) where
+  form-room : lengthOf New b ≤ length form
+  form-room = let most = later-few New (length (recordsOf b)) (omega (arith, records-length b places)) in omega arith
 
-  stored-whole : {answer : StoreAnswer} → answer ≡ formAnswer b form → answer ≡ store.Stored (lengthOf b)
-  stored-whole e = e ∙ sym (store-answer b form (lengthOf b) refl form-room)
+  stored-whole : {answer : StoreAnswer} → answer ≡ formAnswer New b form → answer ≡ store.Stored (lengthOf New b)
+  stored-whole e = e ∙ sym (store-answer New b form (lengthOf New b) refl form-room)
 
-  pub form-refused : {A : Type 0} {answer : StoreAnswer} {r : Refusal} → answer ≡ formAnswer b form → answer ≡ store.Refused r → A
+  pub form-refused : {A : Type 0} {answer : StoreAnswer} {r : Refusal} → answer ≡ formAnswer New b form → answer ≡ store.Refused r → A
   form-refused {A} {answer} {r} e q =
-      let same : store.Refused r ≡ store.Stored (lengthOf b) = sym q ∙ stored-whole e in
+      let same : store.Refused r ≡ store.Stored (lengthOf New b) = sym q ∙ stored-whole e in
       let z : true ≡ false = cc in
       impossible z
 
-  pub form-put : {answer : StoreAnswer} {size : ℕ} {after : List ℕ} → answer ≡ formAnswer b form
-      → answer ≡ store.Stored size → after ≡ afterForm b form → Wrote form 0 (storedForm b) after size
+  pub form-put : {answer : StoreAnswer} {size : ℕ} {after : List ℕ} → answer ≡ formAnswer New b form
+      → answer ≡ store.Stored size → after ≡ afterForm New b form → Wrote form 0 (storedForm New b) after size
   unfolding written
   form-put {answer} {size} {after} e q a =
-      let same : store.Stored size ≡ store.Stored (lengthOf b) = sym q ∙ stored-whole e in
-      let whole : size ≡ lengthOf b = cc in
-      let length-is = form-length b in
-      let behind : lengthOf b ≡ 0 + length (storedForm b) = omega arith in
+      let same : store.Stored size ≡ store.Stored (lengthOf New b) = sym q ∙ stored-whole e in
+      let whole : size ≡ lengthOf New b = cc in
+      let length-is = form-length New b in
+      let behind : lengthOf New b ≡ 0 + length (storedForm New b) = omega arith in
       record {
         follows = omega arith;
         room = omega (arith, form-room);
-        exact = a ∙ (store-copied b form form-room ∙ ap (λ (k : ℕ). storedForm b ++ drop k form) behind);
+        exact = a ∙ (store-copied New b form form-room ∙ ap (λ (k : ℕ). storedForm New b ++ drop k form) behind);
       }
 
 -- a text that was written from the start on
@@ -88,7 +88,7 @@ reply-valid present bytes contents c e a =
     let v : ValidContents contents = rw e (valid-found present bytes) in previewed-valid contents c v (a v)
 
 -- with too little room
-pub obey-short : (file : File) (line reply form : List ℕ) → (length reply < 16384) ⊎ (length form < 5120)
+pub obey-short : (file : File) (line reply form : List ℕ) → (length reply < 16384) ⊎ (length form < 7168)
     → ObeyPromise file line reply form reply form (record { changes = false; reply = 0; form = 0 })
 obey-short file line reply form s = record {
   short = λ l. (refl, (refl, refl));
@@ -98,16 +98,16 @@ obey-short file line reply form s = record {
 
 -- with room for every answer
 module _ (file : File) (line reply form : List ℕ) {text replyAfter : List ℕ} {r : Answered} {size : ℕ}
-    (h : 16384 ≤ length reply) (k : 5120 ≤ length form)
+    (h : 16384 ≤ length reply) (k : 7168 ≤ length form)
     (e : r ≡ obeyed file line) (q : text ≡ heard line) (w : Wrote reply 0 (replyText text (r .book) (r .reply)) replyAfter size) where
-  too-short : {A : Type 0} → (length reply < 16384) ⊎ (length form < 5120) → A
+  too-short : {A : Type 0} → (length reply < 16384) ⊎ (length form < 7168) → A
   too-short = ⊎-elim (λ l. absurd (omega arith)) (λ l. absurd (omega arith))
 
   answer-told : {x : Answered} {t : List ℕ} → r ≡ x → text ≡ t → Told (replyText t (x .book) (x .reply)) reply replyAfter size
   answer-told p s = rw (← p, ← s) (told w)
 
   -- a line that changes the book, and one that does not
-  pub obey-stored : {formAfter : List ℕ} {formSize : ℕ} → r .changes ≡ true → Wrote form 0 (storedForm (r .book)) formAfter formSize
+  pub obey-stored : {formAfter : List ℕ} {formSize : ℕ} → r .changes ≡ true → Wrote form 0 (storedForm New (r .book)) formAfter formSize
       → ObeyPromise file line reply form replyAfter formAfter (record { changes = r .changes; reply = size; form = formSize })
   obey-stored {formAfter} {formSize} c f = record {
     short = λ s. too-short s;
@@ -120,7 +120,7 @@ module _ (file : File) (line reply form : List ℕ) {text replyAfter : List ℕ}
     };
   }
     where
-      form-told : {x : Answered} → r ≡ x → Told (storedForm (x .book)) form formAfter formSize
+      form-told : {x : Answered} → r ≡ x → Told (storedForm New (x .book)) form formAfter formSize
       form-told p = rw (← p) (told f)
 
   pub obey-left : r .changes ≡ false

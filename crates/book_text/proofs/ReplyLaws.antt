@@ -1,5 +1,5 @@
--- The texts of orders and of serials, one behind the other.
-use Prim.Native.Nat.{ℕ, _+_, _*_, _≤_, _<_}
+-- The texts of a revision, and of orders and of serials, one behind the other.
+use Prim.Native.Nat.{ℕ, _+_, _*_, _/_, _%_, _≤_, _<_}
 use mathlib.Core.Path.{_≡_, refl, sym, _∙_, ap}
 use mathlib.Core.Bool.{Bool, true, false, cond, not}
 use mathlib.Core.List.{List, [], _∷_, _++_, append-assoc, append-nil}
@@ -14,13 +14,40 @@ use Rattle.book.specs.declared.books.Book.{Book}
 use Rattle.book.specs.Circuits.{vacant, isLive}
 use Rattle.book.specs.Books.{recordsOf, liveIn, pendingIn}
 use Rattle.book.proofs.Places.{record-at}
+use Rattle.book.specs.Revisions.{revision}
 use Rattle.texts.specs.Bytes.{bytes}
+use Rattle.texts.specs.Decimal.{digits, decimal}
+use Rattle.texts.specs.Fields.{lineFeed}
 use Rattle.texts.specs.Layout.{labelled}
 use Rattle.texts.specs.Internal.Writing.{Wrote}
+use Rattle.texts.proofs.DecimalLaws.{digits-one, digits-more}
 use Rattle.texts.proofs.WordLaws.{labelled-short, way-short}
 use Rattle.texts.proofs.WritingLaws.{wrote-then, wrote-none, wrote-length}
-use Rattle.book_text.specs.Replies.{circuitText, orderText, linesOf, serialsText, wouldGrant}
+use Rattle.book_text.specs.Replies.{oneNumber, twoNumbers, revisionText, circuitText, orderText, linesOf, serialsText, wouldGrant}
 use Rattle.book_text.specs.Internal.Listing.{isListed, listed}
+
+-- a revision is twice a number of 16 bits at the most
+pub revision-small : (b : Book) {n : ℕ} → b .grants < 65536 → n ≡ revision b → n < 131072
+unfolding revision
+revision-small b h e = omega arith
+
+-- its one digit, or its last one behind the others
+module _ {before after : List ℕ} {next n m : ℕ} (e : n ≡ m) where
+  pub revision-one : n < 10 → Wrote before 0 (oneNumber (bytes "revision ") n) after next → Wrote before 0 (revisionText m) after next
+  unfolding decimal labelled oneNumber revisionText
+  revision-one h w =
+      let same : digits 5 n ≡ digits 6 n = digits-one 4 n h ∙ sym (digits-one 5 n h) in
+      rw (← e, ← same) w
+
+  pub revision-more : 10 ≤ n → Wrote before 0 (twoNumbers (bytes "revision ") (n / 10) [] (n % 10)) after next
+      → Wrote before 0 (revisionText m) after next
+  unfolding decimal labelled oneNumber twoNumbers revisionText
+  revision-more h w =
+      let last = digits-one 4 (n % 10) (omega arith) in
+      let whole : digits 6 n ++ (lineFeed ∷ []) ≡ digits 5 (n / 10) ++ (digits 5 (n % 10) ++ (lineFeed ∷ [])) =
+      ap (λ (l : List ℕ). l ++ (lineFeed ∷ [])) (digits-more 5 n h ∙ ap (λ (l : List ℕ). digits 5 (n / 10) ++ l) (sym last))
+      ∙ append-assoc (digits 5 (n / 10)) (digits 5 (n % 10)) (lineFeed ∷ []) in
+      rw (← e, whole) w
 
 -- no line of an order is longer than 32 bytes
 circuit-short : (word : List ℕ) (a b : ℕ) (way : Way) (colour : ℕ) → length (circuitText word a b way colour) ≤ length word + 20

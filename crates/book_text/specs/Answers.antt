@@ -4,7 +4,7 @@ use mathlib.Core.Path.{_≡_}
 use mathlib.Core.Bool.{Bool, true, false}
 use mathlib.Core.List.{List, []}
 use lib.ListN.{length}
-use Rattle.ring.specs.declared.refusals.Refusal.the-variants.{MarkedRecord}
+use Rattle.ring.specs.declared.refusals.Refusal.{Refusal}
 use Rattle.book.specs.declared.books.Book.{Book}
 use Rattle.book.specs.declared.books.OpenAnswer.{OpenAnswer}
 use Rattle.book.specs.declared.books.OpenAnswer.the-variants as opening
@@ -18,7 +18,7 @@ use Rattle.book.specs.declared.orders.ShowAnswer.{ShowAnswer}
 use Rattle.book.specs.declared.orders.ShowAnswer.the-variants as show
 use Rattle.book.specs.declared.holders.HolderAnswer.{HolderAnswer}
 use Rattle.book.specs.declared.holders.HolderAnswer.the-variants as holder
-use Rattle.book.specs.Books.{liveOf, hasMarked, Valid, bookOf, opened}
+use Rattle.book.specs.Books.{liveOf, Valid, bookOf, opened}
 use Rattle.book.specs.Grants.{granted}
 use Rattle.book.specs.Removals.{removed}
 use Rattle.book.specs.Confirmations.{confirmed}
@@ -26,7 +26,7 @@ use Rattle.book.specs.Orders.{shownTo}
 use Rattle.book.specs.Holders.{heldFor}
 use Rattle.stored.specs.declared.loads.LoadAnswer.{LoadAnswer}
 use Rattle.stored.specs.declared.loads.LoadAnswer.the-variants as load
-use Rattle.stored.specs.Loading.{loaded}
+use Rattle.stored.specs.Loading.{loaded, loadedOld}
 use Rattle.book_text.specs.declared.lines.Command.{Command}
 use Rattle.book_text.specs.declared.lines.Command.the-variants as command
 use Rattle.book_text.specs.declared.answers.State.{State}
@@ -34,19 +34,28 @@ use Rattle.book_text.specs.declared.answers.State.the-variants.{Absent, 
 use Rattle.book_text.specs.declared.answers.Contents.{Contents}
 use Rattle.book_text.specs.declared.answers.Reply.{Reply}
 use Rattle.book_text.specs.declared.answers.Reply.the-variants.{Opened, Granted, Previewed, Removed, Confirmed, Circuit, Free, Held}
-use Rattle.book_text.specs.declared.answers.Reply.the-variants.{HeldBy, Count, Orders, PendingOrders, Refused, BookThere}
-use Rattle.book_text.specs.declared.answers.Reply.the-variants.{NoBook, Aside}
+use Rattle.book_text.specs.declared.answers.Reply.the-variants.{HeldBy, Count, Revision, Orders, PendingOrders, Refused}
+use Rattle.book_text.specs.declared.answers.Reply.the-variants.{BookThere, NoBook, Aside}
 use Rattle.book_text.specs.declared.answers.Answered.{Answered}
 
--- the state of a file by what load answers
-abbrev pub stateOf : LoadAnswer → State
-stateOf load.Loaded = Sound
-stateOf (load.Refused r) = Broken r
+-- a book that was read
+abbrev pub found : Book → Contents
+found b = record { state = Sound; book = b }
 
--- what a file holds; without a book, a book of no nodes stands for it
+-- bytes that this refusal says are no new form, by what the load of the old form answers: if that refuses too, the refusal stays
+abbrev pub foundOld : Refusal → LoadAnswer → Book → Contents
+foundOld r load.Loaded b = found b
+foundOld r (load.Refused q) b = record { state = Broken r; book = b }
+
+-- bytes, by what the load of the new form answers: those that it refuses are read as the old form
+abbrev pub foundIn : List ℕ → LoadAnswer → Book → Contents
+foundIn bytes load.Loaded b = found b
+foundIn bytes (load.Refused r) b = foundOld r (loadedOld bytes .answer) (loadedOld bytes .book)
+
+-- what a file holds, read with lowest revision 0; without a book, a book of no nodes stands for it
 abbrev pub contentsIn : Bool → List ℕ → Contents
 contentsIn false bytes = record { state = Absent; book = bookOf 0 0 0 [] }
-contentsIn true bytes = record { state = stateOf (loaded bytes .answer); book = loaded bytes .book }
+contentsIn true bytes = foundIn bytes (loaded 0 bytes .answer) (loaded 0 bytes .book)
 
 -- the book, if there is one, is a valid one
 abbrev pub ValidContents : Contents → Type 0
@@ -60,12 +69,6 @@ only b reply = record { reply = reply; changes = false; book = b }
 abbrev pub replacing : Book → Reply → Answered
 replacing b reply = record { reply = reply; changes = true; book = b }
 
--- a change that the book accepted, with the book after it: one with a record that is pending or not the desk's is not stored, and all stays
--- as it is
-abbrev pub storing : Bool → Book → Book → Reply → Answered
-storing true b next reply = only b (Refused MarkedRecord)
-storing false b next reply = replacing next reply
-
 -- opening, by the book's own answer: a refusal changes nothing
 abbrev pub openingBy : Book → ℕ → ℕ → OpenAnswer → Book → Answered
 openingBy b n w opening.Opened fresh = replacing fresh (Opened n w)
@@ -73,17 +76,17 @@ openingBy b n w (opening.Refused r) fresh = only b (Refused r)
 
 -- a grant, by the book's own answer
 abbrev pub grantingBy : Book → GrantAnswer → Book → Answered
-grantingBy b (grant.Granted serial) next = storing (hasMarked next) b next (Granted serial)
+grantingBy b (grant.Granted serial) next = replacing next (Granted serial)
 grantingBy b (grant.Refused r) next = only b (Refused r)
 
 -- a removal, by the book's own answer
 abbrev pub removingBy : Book → ℕ → RemoveAnswer → Book → Answered
-removingBy b serial remove.Removed next = storing (hasMarked next) b next (Removed serial)
+removingBy b serial remove.Removed next = replacing next (Removed serial)
 removingBy b serial (remove.Refused r) next = only b (Refused r)
 
 -- a confirmation, by the book's own answer
 abbrev pub confirmingBy : Book → ℕ → ConfirmAnswer → Book → Answered
-confirmingBy b serial confirm.Confirmed next = storing (hasMarked next) b next (Confirmed serial)
+confirmingBy b serial confirm.Confirmed next = replacing next (Confirmed serial)
 confirmingBy b serial (confirm.Refused r) next = only b (Refused r)
 
 -- what show replies, by the book's own answer
@@ -132,6 +135,7 @@ turnedDown b reply (command.Confirm serial) = only b reply
 turnedDown b reply (command.Show serial crew) = only b reply
 turnedDown b reply (command.Holder link colour crew) = only b reply
 turnedDown b reply command.Count = only b reply
+turnedDown b reply command.Revision = only b reply
 turnedDown b reply command.List = only b reply
 turnedDown b reply command.Pending = only b reply
 turnedDown b reply (command.Aside a) = only b (Aside a)
@@ -146,6 +150,7 @@ answeredNone b (command.Confirm serial) = only b NoBook
 answeredNone b (command.Show serial crew) = only b NoBook
 answeredNone b (command.Holder link colour crew) = only b NoBook
 answeredNone b command.Count = only b NoBook
+answeredNone b command.Revision = only b NoBook
 answeredNone b command.List = only b NoBook
 answeredNone b command.Pending = only b NoBook
 answeredNone b (command.Aside a) = only b (Aside a)
@@ -160,11 +165,12 @@ answeredBook b (command.Confirm serial) = confirmAnswer b serial
 answeredBook b (command.Show serial crew) = only b (showReply b serial crew)
 answeredBook b (command.Holder link colour crew) = only b (holderReply b link colour crew)
 answeredBook b command.Count = only b (Count (length (liveOf b)) (b .grants))
+answeredBook b command.Revision = only b Revision
 answeredBook b command.List = only b Orders
 answeredBook b command.Pending = only b PendingOrders
 answeredBook b (command.Aside a) = only b (Aside a)
 
--- by the state of the file: one that load refuses gets its refusal for an answer
+-- by the state of the file: one that is in neither form gets its refusal for an answer
 abbrev pub answeredIn : State → Book → Command → Answered
 answeredIn Absent b c = answeredNone b c
 answeredIn (Broken r) b c = turnedDown b (Refused r) c

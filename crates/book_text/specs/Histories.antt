@@ -1,21 +1,21 @@
 -- What every run of lines comes to: the book in the file goes through the book's own histories.
 use Prim.Native.Nat.{ℕ}
 use mathlib.Core.Path.{_≡_}
-use mathlib.Core.Bool.{Bool, false, cond}
+use mathlib.Core.Bool.{true, false}
 use mathlib.Core.List.{List, [], _∷_, _++_}
-use lib.Dec.{eqb}
 use Rattle.ring.specs.declared.refusals.Verdict.the-variants.{Allowed}
-use Rattle.ring.specs.Refusals.{numberOf}
 use Rattle.ring.specs.Admission.{ringVerdict}
 use Rattle.texts.specs.Bytes.{bytes}
+use Rattle.book.specs.declared.books.Book.{Book}
 use Rattle.book.specs.Books.{opened}
 use Rattle.book.specs.History.{Call, Grant, Remove, Confirm, Show, Holder, run}
+use Rattle.stored.specs.declared.forms.Form.the-variants.{New}
+use Rattle.stored.specs.declared.loads.LoadAnswer.the-variants.{Loaded}
 use Rattle.stored.specs.Forms.{storedForm}
+use Rattle.stored.specs.Loading.{loadedOld}
 use Rattle.stored.specs.Histories.{StoredAfter}
 use Rattle.book_text.specs.declared.lines.Command.{Command}
 use Rattle.book_text.specs.declared.lines.Command.the-variants as command
-use Rattle.book_text.specs.declared.answers.Reply.{Reply}
-use Rattle.book_text.specs.declared.answers.Reply.the-variants as reply
 use Rattle.book_text.specs.Lines.{commandOf}
 use Rattle.book_text.specs.Answers.{answeredBook}
 use Rattle.book_text.specs.Promises.{File, none, holding, lineAnswer, fileAfter, obeyed}
@@ -35,34 +35,15 @@ called (command.Confirm serial) calls = Confirm serial ∷ calls
 called (command.Show serial crew) calls = Show serial crew ∷ calls
 called (command.Holder link colour crew) calls = Holder link colour crew ∷ calls
 called command.Count calls = calls
+called command.Revision calls = calls
 called command.List calls = calls
 called command.Pending calls = calls
 called (command.Aside a) calls = calls
 
--- the reply to a change that the book accepted and that is not stored: 25
-abbrev pub unstored : Reply → Bool
-unstored (reply.Refused r) = eqb (numberOf r) 25
-unstored (reply.Opened n w) = false
-unstored (reply.Granted serial) = false
-unstored reply.Previewed = false
-unstored (reply.Removed serial) = false
-unstored (reply.Confirmed serial) = false
-unstored (reply.Circuit x y way colour) = false
-unstored reply.Free = false
-unstored reply.Held = false
-unstored (reply.HeldBy serial) = false
-unstored (reply.Count live grants) = false
-unstored reply.Orders = false
-unstored reply.PendingOrders = false
-unstored reply.BookThere = false
-unstored reply.NoBook = false
-unstored (reply.Aside a) = false
-
--- the calls of lines to a file, the latest first, without those that are not stored
-abbrev pub callsOf : File → List (List ℕ) → List Call
-callsOf file [] = []
-callsOf file (line ∷ lines) =
-    cond (unstored (obeyed (fileAfterAll file lines) line .reply)) (callsOf file lines) (called (commandOf line) (callsOf file lines))
+-- the calls of lines, the latest first
+abbrev pub callsOf : List (List ℕ) → List Call
+callsOf [] = []
+callsOf (line ∷ lines) = called (commandOf line) (callsOf lines)
 
 -- a file that holds the book after these calls from an opening, and answers each line as that book does
 pub record FileHolds (n w : ℕ) (calls : List Call) (file : File) : Type 0 where
@@ -71,19 +52,27 @@ pub record FileHolds (n w : ℕ) (calls : List Call) (file : File) : Type 0 wher
   pub stored : StoredAfter n w calls bytes
   pub answers : (line : List ℕ) → obeyed file line ≡ answeredBook (run (opened n w .book) calls) (commandOf line)
 
--- a line that opens a book where there is no file leaves the stored form of the new book; then it is so after all lines
+-- a file in the old form answers each line as its book does, and a line that changes the book leaves the new form of the changed one
+pub record OldFile (bytes : List ℕ) (b : Book) : Type 0 where
+  pub answers : (line : List ℕ) → obeyed (holding bytes) line ≡ answeredBook b (commandOf line)
+  pub changed : (line : List ℕ) → answeredBook b (commandOf line) .changes ≡ true
+      → fileAfter (holding bytes) line ≡ holding (storedForm New (answeredBook b (commandOf line) .book))
+  pub left : (line : List ℕ) → answeredBook b (commandOf line) .changes ≡ false → fileAfter (holding bytes) line ≡ holding bytes
+
+-- a line that opens a book leaves its new form; then it is so after all lines; what loads as the old form is a file in the old form
 pub record LineHistories : Type 0 where
   pub opening : (n w : ℕ) → ringVerdict n w ≡ Allowed → (line : List ℕ) → commandOf line ≡ command.Open n w
-      → fileAfter none line ≡ holding (storedForm (opened n w .book))
+      → fileAfter none line ≡ holding (storedForm New (opened n w .book))
   pub lines : (n w : ℕ) → ringVerdict n w ≡ Allowed → (lines : List (List ℕ))
-      → let file = holding (storedForm (opened n w .book)) in FileHolds n w (callsOf file lines) (fileAfterAll file lines)
+      → FileHolds n w (callsOf lines) (fileAfterAll (holding (storedForm New (opened n w .book))) lines)
+  pub old : (bytes : List ℕ) → loadedOld bytes .answer ≡ Loaded → OldFile bytes (loadedOld bytes .book)
 
 -- the answers to lines, one behind the other
 abbrev pub lineAnswers : File → List (List ℕ) → List ℕ
 lineAnswers file [] = []
 lineAnswers file (line ∷ lines) = lineAnswer file line ++ lineAnswers (fileAfter file line) lines
 
--- T7 as it is typed: the stored form has no room for a pending record, so that the removal is turned down and order 1 stays
+-- T7 as it is typed, with what it says of the grant "Without the confirmation", and the revision at its end
 abbrev pub TypedT7 : Type 0
 TypedT7 =
     lineAnswers none
@@ -92,13 +81,15 @@ TypedT7 =
     ∷ bytes "grant 2 3 0 0\n"
     ∷ bytes "grant 1 3 0 0\n"
     ∷ bytes "remove 1\n"
-    ∷ bytes "grant 0 2 1 0\n"
     ∷ bytes "grant 0 1 0 0\n"
     ∷ bytes "confirm 1\n"
+    ∷ bytes "grant 0 2 1 0\n"
+    ∷ bytes "grant 0 1 0 0\n"
     ∷ bytes "show 1\n"
     ∷ bytes "show 4\n"
+    ∷ bytes "revision\n"
     ∷ [])
     ≡ bytes "opened 4 1\ngranted 1\ngranted 2\nrefused 11 that colour is held on a link of the way\n"
-    ++ (bytes "refused 25 a record that is pending or whose crew is not 0 cannot be stored\n"
-    ++ (bytes "refused 11 that colour is held on a link of the way\nrefused 11 that colour is held on a link of the way\n"
-    ++ bytes "refused 23 the circuit is live\ncircuit 0 2 P 0\nrefused 14 serial 0 or never given\n"))
+    ++ (bytes "removed 1\nrefused 11 that colour is held on a link of the way\n"
+    ++ (bytes "confirmed 1\nrefused 11 that colour is held on a link of the way\ngranted 3\n"
+    ++ bytes "refused 15 removed\nrefused 14 serial 0 or never given\nrevision 4\n"))

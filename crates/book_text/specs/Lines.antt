@@ -172,11 +172,12 @@ unfoldable pub commandIn : List ℕ → Command
 commandIn text =
     cond (sameBytes text (bytes "\n")) (command.Aside aside.Nothing)
     (cond (sameBytes text (bytes "count\n")) command.Count
+    (cond (sameBytes text (bytes "revision\n")) command.Revision
     (cond (sameBytes text (bytes "list\n")) command.List
     (cond (sameBytes text (bytes "pending\n")) command.Pending
     (cond (sameBytes text (bytes "help\n")) (command.Aside aside.Help)
     (cond (sameBytes text (bytes "preview\n")) command.Preview
-    (commandWithNumbers text))))))
+    (commandWithNumbers text)))))))
 
 -- "several spaces count as one", and none at the ends of a line; `begun` says that a word came before, `apart` that spaces came since
 abbrev pub squeezedFrom : Bool → Bool → List ℕ → List ℕ

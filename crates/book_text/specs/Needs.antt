@@ -14,6 +14,7 @@ needOf command.Preview = Reading
 needOf (command.Show serial crew) = Reading
 needOf (command.Holder link colour crew) = Reading
 needOf command.Count = Reading
+needOf command.Revision = Reading
 needOf command.List = Reading
 needOf command.Pending = Reading
 needOf (command.Aside a) = Nothing

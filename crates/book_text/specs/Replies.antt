@@ -6,6 +6,7 @@ use Rattle.ring.specs.declared.ways.Way.{Way}
 use Rattle.ring.specs.declared.refusals.Refusal.{Refusal}
 use Rattle.ring.specs.Refusals.{numberOf}
 use Rattle.texts.specs.Bytes.{bytes}
+use Rattle.texts.specs.Decimal.{digits}
 use Rattle.texts.specs.Fields.{space, lineFeed}
 use Rattle.texts.specs.Layout.{labelled, wayEnding}
 use Rattle.texts.specs.Grounds.{groundOf}
@@ -15,6 +16,7 @@ use Rattle.book.specs.declared.previews.PreviewAnswer.{PreviewAnswer}
 use Rattle.book.specs.declared.previews.PreviewAnswer.the-variants as preview
 use Rattle.book.specs.declared.previews.Previewed.{Previewed}
 use Rattle.book.specs.Books.{liveOf, pendingOf}
+use Rattle.book.specs.Revisions.{revision}
 use Rattle.book.specs.Previews.{serialsOf, previewedAll}
 use Rattle.book_text.specs.declared.lines.Aside.{Aside}
 use Rattle.book_text.specs.declared.lines.Aside.the-variants as aside
@@ -29,6 +31,10 @@ oneNumber word n = labelled word n ++ (lineFeed ∷ [])
 -- two of each
 unfoldable pub twoNumbers : List ℕ → ℕ → List ℕ → ℕ → List ℕ
 twoNumbers first n second m = labelled first n ++ oneNumber second m
+
+-- a revision, which has at most 6 digits: it is twice a number of 16 bits at the most
+unfoldable pub revisionText : ℕ → List ℕ
+revisionText n = bytes "revision " ++ (digits 6 n ++ (lineFeed ∷ []))
 
 -- the ends of a circuit behind a word, then `P` and its colour, or `S` for the seam way
 unfoldable pub circuitText : List ℕ → ℕ → ℕ → Way → ℕ → List ℕ
@@ -91,9 +97,10 @@ helpText =
     ++ (bytes "show SERIAL [CREW]           the circuit of an order that CREW may read: its ends, P (plain) or S (seam), its colour\n"
     ++ (bytes "holder LINK COLOUR [CREW]    the order that has the colour on the link, if CREW may read it\n"
     ++ (bytes "count                        how many orders are live, and how many were granted so far\n"
+    ++ (bytes "revision                     the book's revision, which rises by one with each grant and each removal\n"
     ++ (bytes "list                         every live order with its circuit\n"
     ++ (bytes "pending                      every removed order whose pull is not yet confirmed, with its circuit\n"
-    ++ bytes "help                         these lines; CREW is 0 to 999, and 0, the desk, where it is left out\n")))))))))
+    ++ bytes "help                         these lines; CREW is 0 to 999, and 0, the desk, where it is left out\n"))))))))))
 
 -- the answer to a line that asks nothing of the book, as it was heard
 abbrev pub asideText : List ℕ → Aside → List ℕ
@@ -115,6 +122,7 @@ replyText text b reply.Free = bytes "free\n"
 replyText text b reply.Held = bytes "held\n"
 replyText text b (reply.HeldBy serial) = oneNumber (bytes "held ") serial
 replyText text b (reply.Count live grants) = twoNumbers (bytes "live ") live (bytes " grants ") grants
+replyText text b reply.Revision = revisionText (revision b)
 replyText text b reply.Orders = ordersText b
 replyText text b reply.PendingOrders = pendingText b
 replyText text b (reply.Refused r) = refusedText r

@@ -3,7 +3,6 @@ use super::lines::Aside;
 use super::lines::Command;
 use book::Book;
 use book::books::OpenAnswer;
-use book::books::has_marked;
 use book::books::live_count;
 use book::confirm;
 use book::confirmations::ConfirmAnswer;
@@ -20,9 +19,11 @@ use ring::Refusal;
 use ring::Way;
 use stored::loads::LoadAnswer;
 use stored::loads::load;
+use stored::loads::load_old;
 ghost use mathlib.Core.Path.{_≡_};
-ghost use Rattle.book.specs.Books.{hasMarked, Valid};
-ghost use Rattle.book_text.specs.Answers.{contentsIn, ValidContents, only, replacing, storing};
+ghost use Rattle.book.specs.Books.{Valid};
+ghost use Rattle.stored.specs.Loading.{loadedOld};
+ghost use Rattle.book_text.specs.Answers.{found, foundOld, contentsIn, ValidContents, only, replacing};
 ghost use Rattle.book_text.specs.Answers.{openingAnswer, grantAnswer, removeAnswer, confirmAnswer, showReply, holderReply};
 ghost use Rattle.book_text.specs.Answers.{turnedDown, answeredNone, answeredBook, answered};
 
@@ -50,6 +51,7 @@ pub enum Reply {
     Held,
     HeldBy(u16),
     Count(u16, u16),
+    Revision,
     Orders,
     PendingOrders,
     Refused(Refusal),
@@ -65,7 +67,33 @@ pub struct Answered {
     pub book: Book,
 }
 
-// What the bytes of a file hold, if there is one.
+// A book that was read.
+fn found(book: Book) -> Contents
+    ensures { λ r. ⌜ r ≡ found book ⌝ }
+{
+    Contents {
+        state: State::Sound,
+        book: book,
+    }
+}
+
+// What bytes that are no new form hold: a book in the old form, or no book, and then the refusal is that of the new form.
+fn find_old(bytes: &[u8], refusal: Refusal) -> Contents
+    ensures { λ r. ⌜ r ≡ foundOld refusal (loadedOld (now (bytes .entry)) .answer) (loadedOld (now (bytes .entry)) .book) ⌝ }
+{
+    let loaded = load_old(bytes);
+    let answer = loaded.answer;
+    let book = loaded.book;
+    match answer {
+        LoadAnswer::Loaded => found(book),
+        LoadAnswer::Refused(_) => Contents {
+            state: State::Broken(refusal),
+            book: book,
+        },
+    }
+}
+
+// What the bytes of a file hold, if there is one: a book in the new form, or else what they hold in the old one.
 pub fn find(present: bool, bytes: &[u8]) -> Contents
     ensures { λ r. ⌜ r ≡ contentsIn present (now (bytes .entry)) ⌝ }
 {
@@ -77,18 +105,12 @@ pub fn find(present: bool, bytes: &[u8]) -> Contents
             book: blank,
         };
     }
-    let loaded = load(bytes);
+    let loaded = load(bytes, 0);
     let answer = loaded.answer;
     let book = loaded.book;
     match answer {
-        LoadAnswer::Loaded => Contents {
-            state: State::Sound,
-            book: book,
-        },
-        LoadAnswer::Refused(refusal) => Contents {
-            state: State::Broken(refusal),
-            book: book,
-        },
+        LoadAnswer::Loaded => found(book),
+        LoadAnswer::Refused(refusal) => find_old(bytes, refusal),
     }
 }
 
@@ -114,17 +136,6 @@ fn replacing(book: Book, reply: Reply) -> Answered
     }
 }
 
-// A change that the book accepted: 25, and the book as it was, if the one after it has a record that is pending or not the desk's, which
-// has no stored form.
-fn storing(book: Book, next: Book, reply: Reply) -> Answered
-    ensures { λ r. ⌜ r ≡ storing (hasMarked next) book next reply ⌝ }
-{
-    if has_marked(next) {
-        return only(book, Reply::Refused(Refusal::MarkedRecord));
-    }
-    replacing(next, reply)
-}
-
 fn answer_open(book: Book, n: u16, w: u16) -> Answered
     ensures { λ r. ⌜ r ≡ openingAnswer book n w ⌝ }
 {
@@ -144,7 +155,7 @@ fn answer_grant(book: Book, x: u16, y: u16, way: u16, colour: u16, crew: u16) ->
     let answer = granted.answer;
     let next = granted.book;
     match answer {
-        GrantAnswer::Granted(serial) => storing(book, next, Reply::Granted(serial)),
+        GrantAnswer::Granted(serial) => replacing(next, Reply::Granted(serial)),
         GrantAnswer::Refused(refusal) => only(book, Reply::Refused(refusal)),
     }
 }
@@ -156,7 +167,7 @@ fn answer_remove(book: Book, serial: u16) -> Answered
     let answer = removed.answer;
     let next = removed.book;
     match answer {
-        RemoveAnswer::Removed => storing(book, next, Reply::Removed(serial)),
+        RemoveAnswer::Removed => replacing(next, Reply::Removed(serial)),
         RemoveAnswer::Refused(refusal) => only(book, Reply::Refused(refusal)),
     }
 }
@@ -168,7 +179,7 @@ fn answer_confirm(book: Book, serial: u16) -> Answered
     let answer = confirmed.answer;
     let next = confirmed.book;
     match answer {
-        ConfirmAnswer::Confirmed => storing(book, next, Reply::Confirmed(serial)),
+        ConfirmAnswer::Confirmed => replacing(next, Reply::Confirmed(serial)),
         ConfirmAnswer::Refused(refusal) => only(book, Reply::Refused(refusal)),
     }
 }
@@ -211,6 +222,7 @@ fn turn_down(book: Book, reply: Reply, command: Command) -> Answered
         Command::Show(_, _) => only(book, reply),
         Command::Holder(_, _, _) => only(book, reply),
         Command::Count => only(book, reply),
+        Command::Revision => only(book, reply),
         Command::List => only(book, reply),
         Command::Pending => only(book, reply),
         Command::Aside(aside) => only(book, Reply::Aside(aside)),
@@ -230,6 +242,7 @@ fn answer_none(book: Book, command: Command) -> Answered
         Command::Show(_, _) => only(book, Reply::NoBook),
         Command::Holder(_, _, _) => only(book, Reply::NoBook),
         Command::Count => only(book, Reply::NoBook),
+        Command::Revision => only(book, Reply::NoBook),
         Command::List => only(book, Reply::NoBook),
         Command::Pending => only(book, Reply::NoBook),
         Command::Aside(aside) => only(book, Reply::Aside(aside)),
@@ -248,6 +261,7 @@ fn answer_book(book: Book, command: Command) -> Answered
         Command::Show(serial, crew) => only(book, answer_show(book, serial, crew)),
         Command::Holder(link, colour, crew) => only(book, answer_holder(book, link, colour, crew)),
         Command::Count => only(book, Reply::Count(live_count(book), book.grants)),
+        Command::Revision => only(book, Reply::Revision),
         Command::List => only(book, Reply::Orders),
         Command::Pending => only(book, Reply::PendingOrders),
         Command::Aside(aside) => only(book, Reply::Aside(aside)),

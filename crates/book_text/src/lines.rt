@@ -28,6 +28,7 @@ pub enum Command {
     Show(u16, u16),
     Holder(u16, u16, u16),
     Count,
+    Revision,
     List,
     Pending,
     Aside(Aside),
@@ -187,6 +188,9 @@ fn command_in(text: &[u8]) -> Command
     }
     if same_bytes(text, b"count\n") {
         return Command::Count;
+    }
+    if same_bytes(text, b"revision\n") {
+        return Command::Revision;
     }
     if same_bytes(text, b"list\n") {
         return Command::List;

@@ -5,11 +5,13 @@ use super::lines::Command;
 use super::lines::read;
 use super::replies::put_reply;
 use book::Book;
+use stored::Form;
 use stored::StoreAnswer;
 use stored::stores::write_form;
 ghost use mathlib.Core.Path.{_≡_};
 ghost use Prim.Native.Nat.{_≤_};
 ghost use lib.ListN.{length};
+ghost use Rattle.stored.specs.declared.forms.Form.the-variants.{New};
 ghost use Rattle.stored.specs.Forms.{storedForm};
 ghost use Rattle.texts.specs.Internal.Writing.{Wrote};
 ghost use Rattle.book_text.specs.Lines.{commandOf};
@@ -43,6 +45,7 @@ fn need_of_command(command: Command) -> Need
         Command::Show(_, _) => Need::Reading,
         Command::Holder(_, _, _) => Need::Reading,
         Command::Count => Need::Reading,
+        Command::Revision => Need::Reading,
         Command::List => Need::Reading,
         Command::Pending => Need::Reading,
         Command::Aside(_) => Need::Nothing,
@@ -59,13 +62,12 @@ pub fn need_of_line(line: &[u8]) -> Need
     need_of_command(command)
 }
 
-// Puts the stored form of a book into a buffer that has room for the longest. The records of a book that changed are live
-// and the desk's.
+// Puts the new form of a book into a buffer that has room for the longest.
 fn put_form(form: &mut [u8], book: Book) -> usize
-    requires { ⌜ 5120 ≤ length (now form) ⌝ }
-    ensures { λ r. ⌜ Wrote (now (form .entry)) 0 (storedForm book) (now (form .exit)) r ⌝ }
+    requires { ⌜ 7168 ≤ length (now form) ⌝ }
+    ensures { λ r. ⌜ Wrote (now (form .entry)) 0 (storedForm New book) (now (form .exit)) r ⌝ }
 {
-    let answer = write_form(book, form);
+    let answer = write_form(Form::New, book, form);
     let StoreAnswer::Stored(length) = answer else {
         return 0;
     };
@@ -73,12 +75,12 @@ fn put_form(form: &mut [u8], book: Book) -> usize
 }
 
 // Obeys a line by the bytes of the file, if there is one. The answer goes to the front of `reply`, which needs 16,384 bytes, and the bytes
-// that the file is to hold to the front of `form`, which needs 5,120: with less of either nothing is done.
+// that the file is to hold to the front of `form`, which needs 7,168: with less of either nothing is done.
 pub fn obey(present: bool, bytes: &[u8], line: &[u8], reply: &mut [u8], form: &mut [u8]) -> Obeyed
     ensures { λ r. ⌜ ObeyPromise (fileOf present (now (bytes .entry))) (now (line .entry))
         (now (reply .entry)) (now (form .entry)) (now (reply .exit)) (now (form .exit)) r ⌝ }
 {
-    if reply.len() < 16384 || form.len() < 5120 {
+    if reply.len() < 16384 || form.len() < 7168 {
         return Obeyed {
             changes: false,
             reply: 0,

@@ -10,6 +10,7 @@ use book::preview;
 use book::previews::PreviewAnswer;
 use book::previews::Previewed;
 use book::previews::serial_count;
+use book::revision;
 use ring::Refusal;
 use ring::Way;
 use ring::refusals::number;
@@ -25,8 +26,9 @@ ghost use lib.ListN.{length};
 ghost use Rattle.texts.specs.Internal.Writing.{Wrote};
 ghost use Rattle.book.specs.Books.{recordsOf, Valid};
 ghost use Rattle.book.specs.Previews.{serialsOf, previewedAll};
+ghost use Rattle.book.specs.Revisions.{revision};
 ghost use Rattle.book_text.specs.Lines.{linesIn};
-ghost use Rattle.book_text.specs.Replies.{oneNumber, twoNumbers, circuitText, orderText, linesOf};
+ghost use Rattle.book_text.specs.Replies.{oneNumber, twoNumbers, revisionText, circuitText, orderText, linesOf};
 ghost use Rattle.book_text.specs.Replies.{refusedText, serialsText, wouldGrant, previewText, unreadableText, asideText, replyText};
 ghost use Rattle.book_text.specs.Internal.Listing.{isListed, listed};
 
@@ -46,6 +48,18 @@ fn put_two(out: &mut [u8], first: &[u8], n: u16, second: &[u8], m: u16) -> usize
 {
     let next = put_labelled(out, 0, first, n);
     put_one(out, next, second, m)
+}
+
+// The revision of a book, its last digit behind the others.
+fn put_revision(out: &mut [u8], book: Book) -> usize
+    requires { ⌜ 16384 ≤ length (now out) ⌝ }
+    ensures { λ next. ⌜ Wrote (now (out .entry)) 0 (revisionText (revision book)) (now (out .exit)) next ⌝ }
+{
+    let n = revision(book);
+    if n < 10 {
+        return put_one(out, 0, b"revision ", n as u16);
+    }
+    put_two(out, b"revision ", (n / 10) as u16, b"", (n % 10) as u16)
 }
 
 // The ends, way and colour of a circuit behind a word, to the end of the line.
@@ -115,7 +129,7 @@ fn put_orders(out: &mut [u8], book: Book, live: bool) -> usize
 }
 
 // A refusal's number, and its ground.
-fn put_refused(out: &mut [u8], at: usize, refusal: Refusal) -> usize
+pub fn put_refused(out: &mut [u8], at: usize, refusal: Refusal) -> usize
     requires { ⌜ at + 174 ≤ length (now out) ⌝ }
     ensures { λ next. ⌜ Wrote (now (out .entry)) at (refusedText refusal) (now (out .exit)) next ⌝ }
 {
@@ -223,6 +237,7 @@ confirm SERIAL               confirms that a removed order's patch is pulled, an
 show SERIAL [CREW]           the circuit of an order that CREW may read: its ends, P (plain) or S (seam), its colour\n\
 holder LINK COLOUR [CREW]    the order that has the colour on the link, if CREW may read it\n\
 count                        how many orders are live, and how many were granted so far\n\
+revision                     the book's revision, which rises by one with each grant and each removal\n\
 list                         every live order with its circuit\n\
 pending                      every removed order whose pull is not yet confirmed, with its circuit\n\
 help                         these lines; CREW is 0 to 999, and 0, the desk, where it is left out\n",
@@ -258,6 +273,7 @@ pub fn put_reply(out: &mut [u8], reply: Reply, text: &[u8], book: Book) -> usize
         Reply::Held => put(out, 0, b"held\n"),
         Reply::HeldBy(serial) => put_one(out, 0, b"held ", serial),
         Reply::Count(live, grants) => put_two(out, b"live ", live, b" grants ", grants),
+        Reply::Revision => put_revision(out, book),
         Reply::Orders => put_orders(out, book, true),
         Reply::PendingOrders => put_orders(out, book, false),
         Reply::Refused(refusal) => put_refused(out, 0, refusal),

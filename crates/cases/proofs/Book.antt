@@ -11,6 +11,7 @@ use Rattle.book.specs.Removals.{removed}
 use Rattle.book.specs.Confirmations.{absent, confirmed}
 use Rattle.book.specs.Holders.{holderIn, holderVerdict, heldFor}
 use Rattle.stored.specs.Blocks.{checkOf}
+use Rattle.stored.specs.Forms.{laterBlocks}
 use Rattle.cases.specs.Table.{T7, T8, T9}
 use Rattle.cases.specs.Crews.{CrewCase}
 
@@ -24,6 +25,7 @@ unfolding checkOf
 t8 = record { check = refl }
 
 pub t9 : T9
+unfolding laterBlocks
 t9 = record { none = refl; one = refl; block = refl; more = refl; all = refl }
 
 pub crew-case : CrewCase

@@ -1,3 +1,4 @@
 -- The cases of the rules that are proved.
 pub mod Crews
+pub mod NewForm
 pub mod Table

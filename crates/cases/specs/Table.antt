@@ -30,6 +30,7 @@ use Rattle.book.specs.Books.{opened}
 use Rattle.book.specs.History.{Call, Grant, Remove, Confirm, Show, GrantAnswered, RemoveAnswered, ConfirmAnswered, ShowAnswered, event}
 use Rattle.book.specs.History.{run, history}
 use Rattle.stored.specs.Blocks.{checkOf}
+use Rattle.stored.specs.declared.forms.Form.the-variants.{Old}
 use Rattle.stored.specs.Forms.{storedLength}
 use Rattle.texts.specs.Bytes.{bytes}
 use Rattle.plan_text.specs.Promise.{AnswerPromise}
@@ -141,11 +142,11 @@ pub record T8 : Type 0 where
 
 -- T9 "lengths: live 0 is 512; 1 and 63 are 1,024; 64 is 1,536; 512 is 5,120"
 pub record T9 : Type 0 where
-  pub none : storedLength 0 ≡ 512
-  pub one : storedLength 1 ≡ 1024
-  pub block : storedLength 63 ≡ 1024
-  pub more : storedLength 64 ≡ 1536
-  pub all : storedLength 512 ≡ 5120
+  pub none : storedLength Old 0 ≡ 512
+  pub one : storedLength Old 1 ≡ 1024
+  pub block : storedLength Old 63 ≡ 1024
+  pub more : storedLength Old 64 ≡ 1536
+  pub all : storedLength Old 512 ≡ 5120
 
 -- T10 "T4's list with numbers 1, 1: refused 8, requests 0 and 1; with 1, 0: passes, 1 served", and what the check prints
 pub record T10 : Type 0 where

@@ -6,7 +6,8 @@ use mathlib.Core.List.{List, [], _∷_}
 use native.Mathlib.Omega.{arith}
 use Rattle.ring.specs.declared.refusals.Verdict.{Verdict}
 use Rattle.ring.specs.declared.refusals.Verdict.the-variants as verdict
-use Rattle.ring.specs.Answers.{refuses}
+use Rattle.ring.specs.declared.refusals.Refusal.the-variants.{RevisionLow}
+use Rattle.ring.specs.Answers.{gives, refuses}
 use Rattle.ring.specs.Admission.{ringVerdict}
 use Rattle.texts.proofs.GroundLaws.{line-of}
 use Rattle.book.specs.declared.books.Book.{Book}
@@ -18,21 +19,26 @@ use Rattle.book.specs.Previews.{previewedAll, previewInNumbers}
 use Rattle.book.specs.Removals.{removed, removeInNumbers}
 use Rattle.book.specs.Confirmations.{confirmed, confirmInNumbers}
 use Rattle.book.specs.Holders.{heldFor, holderInNumbers}
+use Rattle.book.specs.Revisions.{revision}
 use Rattle.book.specs.History.{Call, Grant, Remove, Confirm, Show, Holder, after, run}
 use Rattle.book.proofs.Opening.{opened-valid}
 use Rattle.book.proofs.Outcomes.{removal-cases, confirmation-cases}
 use Rattle.book.proofs.Validity.{removal-valid, confirmation-valid, keeps-valid}
-use Rattle.book.proofs.EveryHistory.{every-history}
+use Rattle.stored.specs.declared.forms.Form.the-variants.{New}
 use Rattle.stored.specs.declared.loads.Loaded.{Loaded}
 use Rattle.stored.specs.Forms.{storedForm}
-use Rattle.stored.proofs.Promised.{loads-only-forms}
+use Rattle.stored.specs.Loading.{loaded}
+use Rattle.stored.specs.Histories.{StoredAfter}
+use Rattle.stored.proofs.LoadLaws.{recent-low}
+use Rattle.stored.proofs.Promised.{stored-loads, loads-only-forms}
+use Rattle.stored.proofs.StoredHistories.{stored-histories}
 use Rattle.export.specs.Outcomes.{Outcome}
 use Rattle.export.specs.BookCalls.{front, refusing, storing, changing, grantOn, removeOn, confirmOn, openCall, grantCall}
-use Rattle.export.specs.BookCalls.{removeCall, confirmCall, showCall, holderCall, linesOfEntries, previewCall}
+use Rattle.export.specs.BookCalls.{removeCall, confirmCall, showCall, holderCall, linesOfEntries, previewCall, halves, loadCall}
 use Rattle.export.specs.Histories.{Kept, keptBy, answerOf, keptAfter, keptRun, unstored, storedCalls, openedIn, CallHistories}
-use Rattle.export.proofs.Keeping.{Holds, held-valid, changed-held, asked-held, bookAfter, Stores, marked, no-room, whole, stores}
+use Rattle.export.proofs.Keeping.{Holds, held-valid, changed-held, asked-loaded, bookAfter, Stores, no-room, whole, stores}
 use Rattle.export.proofs.Keeping.{whole-holds, storing-holds, refusing-holds}
-use Rattle.export.proofs.OutcomeLaws.{on-refusal}
+use Rattle.export.proofs.OutcomeLaws.{on-refusal, asking-refused}
 
 -- a change by its answer and its book
 module _ (kept : Kept) (b : Book) (h : Holds kept b) where
@@ -118,36 +124,41 @@ opens-book n w buffer = go (ringVerdict n w) refl
       where
         first : Stores [] (bookOf n w 0 []) buffer → storing [] (bookOf n w 0 []) buffer .answer .number ≡ 0
             → Holds (keptBy (record { buffer = buffer; size = 0 }) 0 (storing [] (bookOf n w 0 []) buffer)) (bookOf n w 0 [])
-        first (marked s) accepted = absurd (omega (arith, ap (λ (o : Outcome). o .answer .number) s))
         first (no-room s) accepted = absurd (omega (arith, ap (λ (o : Outcome). o .answer .number) s))
-        first (whole unmarked s) accepted =
+        first (whole s) accepted =
             subst (λ (o : Outcome). Holds (keptBy (record { buffer = buffer; size = 0 }) 0 o) (bookOf n w 0 [])) (sym s)
-            (whole-holds [] 0 (bookOf n w 0 []) (record { buffer = buffer; size = 0 }) (opened-valid n w e) unmarked refl)
+            (whole-holds [] 0 (bookOf n w 0 []) (record { buffer = buffer; size = 0 }) (opened-valid n w e) refl)
     go (verdict.Refused r) e accepted =
         let o = on-refusal r (storing (refuses r .values) (bookOf 0 0 0 []) buffer) (refusing (refuses r) buffer) in
         absurd (omega (arith, line-of r refl .0, ap (λ (o : Outcome). o .answer .number) o))
 
 pub call-histories : CallHistories
-unfolding grantCall removeCall confirmCall showCall holderCall previewCall
+unfolding grantCall removeCall confirmCall showCall holderCall previewCall loadCall
 call-histories n w buffer accepted calls =
     let opens = opens-book n w buffer accepted in
     let kept = keptRun (openedIn n w buffer) calls in
     let b = run (opened n w .book) (storedCalls (openedIn n w buffer) calls) in
+    let bytes : List ℕ = front (kept .size) (kept .buffer) in
     let held : Holds kept b = run-holds (openedIn n w buffer) (opened n w .book) (opens .holds) calls in
+    let form : bytes ≡ storedForm New b =
+    loads-only-forms 0 bytes (ap (λ (l : Loaded). l .answer) held) .form ∙ ap (λ (l : Loaded). storedForm New (l .book)) held
+    in
+    let stored : StoredAfter n w (storedCalls (openedIn n w buffer) calls) bytes =
+    subst (StoredAfter n w (storedCalls (openedIn n w buffer) calls)) (sym form)
+    (stored-histories n w (opens .allowed) (storedCalls (openedIn n w buffer) calls))
+    in
     record {
-      stored = record {
-        form =
-            loads-only-forms (front (kept .size) (kept .buffer)) (ap (λ (l : Loaded). l .answer) held) .form
-            ∙ ap (λ (l : Loaded). storedForm (l .book)) held;
-        loads = held;
-        after = every-history n w (opens .allowed) (storedCalls (openedIn n w buffer) calls);
-      };
+      stored = stored;
       grants = λ x y way colour crew.
           ap (λ (o : Outcome). o .answer) (changed-held kept b held (λ (d : Book). grantOn d x y way colour crew (kept .buffer)));
       removals = λ serial. ap (λ (o : Outcome). o .answer) (changed-held kept b held (λ (d : Book). removeOn d serial (kept .buffer)));
       confirmations = λ serial.
           ap (λ (o : Outcome). o .answer) (changed-held kept b held (λ (d : Book). confirmOn d serial (kept .buffer)));
-      shows = λ serial crew. asked-held kept b held (λ (d : Book). showInNumbers (shownTo crew d serial));
-      holders = λ link colour crew. asked-held kept b held (λ (d : Book). holderInNumbers (heldFor crew d link colour));
-      previews = λ entries. asked-held kept b held (λ (d : Book). previewInNumbers (previewedAll d (linesOfEntries entries)));
+      shows = λ serial crew. asked-loaded 0 bytes b held (λ (d : Book). showInNumbers (shownTo crew d serial));
+      holders = λ link colour crew. asked-loaded 0 bytes b held (λ (d : Book). holderInNumbers (heldFor crew d link colour));
+      previews = λ entries. asked-loaded 0 bytes b held (λ (d : Book). previewInNumbers (previewedAll d (linesOfEntries entries)));
+      loads = λ lowest h. asked-loaded lowest bytes b (stored .loads lowest h) (λ (d : Book). gives (halves (revision d)));
+      too-low = λ lowest h.
+          let low = ap (loaded lowest) form ∙ stored-loads b (stored .after .valid) lowest ∙ sym (recent-low b lowest h) in
+          sym (asking-refused RevisionLow lowest bytes (λ (d : Book). gives (halves (revision d))) (sym low) refl);
     }

@@ -1,7 +1,6 @@
 -- The laws that the functions' proofs cite, and the theorems whose statements stand in specs/: Keeping (RefusedLeaves, LengthPast),
--- CallHistories, Waiting (StoredWait).
+-- CallHistories.
 pub mod OutcomeLaws
 pub mod EntryLaws
 pub mod Keeping
 pub mod CallHistories
-pub mod Waiting

@@ -8,7 +8,7 @@ use lib.Dec.{eqb, ltb}
 use lib.ListN.{length, take, drop}
 use borrow.Author.Tests.{ne-eqb, lt-ltb, le-ltb}
 use Rattle.ring.specs.declared.refusals.Refusal.{Refusal}
-use Rattle.ring.specs.declared.refusals.Refusal.the-variants.{BufferShort, MarkedRecord}
+use Rattle.ring.specs.declared.refusals.Refusal.the-variants.{BufferShort}
 use Rattle.ring.specs.Answers.{InNumbers, gives, refuses}
 use Rattle.ring.specs.Refusals.{numberOf}
 use Rattle.texts.proofs.GroundLaws.{line-of}
@@ -25,10 +25,12 @@ use Rattle.book.specs.declared.removals.Removed.{Removed}
 use Rattle.book.specs.declared.confirmations.ConfirmAnswer.{ConfirmAnswer}
 use Rattle.book.specs.declared.confirmations.ConfirmAnswer.the-variants as confirm
 use Rattle.book.specs.declared.confirmations.Confirmed.{Confirmed}
-use Rattle.book.specs.Books.{hasMarked, Valid, opened, openInNumbers}
+use Rattle.book.specs.Books.{Valid, opened, openInNumbers}
 use Rattle.book.specs.Grants.{granted, grantInNumbers}
 use Rattle.book.specs.Removals.{removed, removeInNumbers}
 use Rattle.book.specs.Confirmations.{confirmed, confirmInNumbers}
+use Rattle.stored.specs.declared.forms.Form.{Form}
+use Rattle.stored.specs.declared.forms.Form.the-variants.{New}
 use Rattle.stored.specs.declared.stores.StoreAnswer.{StoreAnswer}
 use Rattle.stored.specs.declared.stores.StoreAnswer.the-variants as store
 use Rattle.stored.specs.declared.loads.LoadAnswer.{LoadAnswer}
@@ -88,16 +90,16 @@ pub by-confirm : (b : Book) (serial : ℕ) (buffer : List ℕ) {r : Confirmed} {
 by-confirm b serial buffer =
     by-answer (λ (r : Confirmed). r .answer) (λ (a : ConfirmAnswer) (r : Confirmed). changing (confirmInNumbers a) (r .book) buffer)
 
-pub by-load : (buffer : List ℕ) (size : ℕ) (f : Book → Outcome) {l : Loaded} {a : LoadAnswer} → l ≡ loaded (front size buffer)
+pub by-load : (buffer : List ℕ) (size : ℕ) (f : Book → Outcome) {l : Loaded} {a : LoadAnswer} → l ≡ loaded 0 (front size buffer)
     → l .answer ≡ a
     → onSuccess (loadInNumbers a) (f (l .book)) (refusing (loadInNumbers a) buffer) ≡ loadedThen buffer size f
 by-load buffer size f =
     by-answer (λ (l : Loaded). l .answer)
     (λ (a : LoadAnswer) (l : Loaded). onSuccess (loadInNumbers a) (f (l .book)) (refusing (loadInNumbers a) buffer))
 
-pub by-asking : (bytes : List ℕ) (f : Book → InNumbers) {l : Loaded} {a : LoadAnswer} → l ≡ loaded bytes → l .answer ≡ a
-    → onSuccess (loadInNumbers a) (f (l .book)) (loadInNumbers a) ≡ askedOf bytes f
-by-asking bytes f =
+pub by-asking : (lowest : ℕ) (bytes : List ℕ) (f : Book → InNumbers) {l : Loaded} {a : LoadAnswer} → l ≡ loaded lowest bytes → l .answer ≡ a
+    → onSuccess (loadInNumbers a) (f (l .book)) (loadInNumbers a) ≡ askedOf lowest bytes f
+by-asking lowest bytes f =
     by-answer (λ (l : Loaded). l .answer) (λ (a : LoadAnswer) (l : Loaded). onSuccess (loadInNumbers a) (f (l .book)) (loadInNumbers a))
 
 -- the same where the step refuses: the call ends with it
@@ -125,19 +127,20 @@ module _ (r : Refusal) where
   confirm-refused b serial buffer {d} e f =
       sym (on-refusal r (storing (refuses r .values) (d .book) buffer) (refusing (refuses r) buffer)) ∙ by-confirm b serial buffer e f
 
-  pub load-refused : (buffer : List ℕ) (size : ℕ) (f : Book → Outcome) {l : Loaded} → l ≡ loaded (front size buffer)
+  pub load-refused : (buffer : List ℕ) (size : ℕ) (f : Book → Outcome) {l : Loaded} → l ≡ loaded 0 (front size buffer)
       → l .answer ≡ load.Refused r
       → refusing (refuses r) buffer ≡ loadedThen buffer size f
   load-refused buffer size f {l} e g = sym (on-refusal r (f (l .book)) (refusing (refuses r) buffer)) ∙ by-load buffer size f e g
 
-  pub asking-refused : (bytes : List ℕ) (f : Book → InNumbers) {l : Loaded} → l ≡ loaded bytes → l .answer ≡ load.Refused r
-      → refuses r ≡ askedOf bytes f
-  asking-refused bytes f {l} e g = sym (on-refusal r (f (l .book)) (refuses r)) ∙ by-asking bytes f e g
+  pub asking-refused : (lowest : ℕ) (bytes : List ℕ) (f : Book → InNumbers) {l : Loaded} → l ≡ loaded lowest bytes
+      → l .answer ≡ load.Refused r
+      → refuses r ≡ askedOf lowest bytes f
+  asking-refused lowest bytes f {l} e g = sym (on-refusal r (f (l .book)) (refuses r)) ∙ by-asking lowest bytes f e g
 
 -- a book that was loaded is valid
-pub loaded-valid : (bytes : List ℕ) {l : Loaded} → l ≡ loaded bytes → l .answer ≡ load.Loaded → Valid (l .book)
+pub loaded-valid : (bytes : List ℕ) {l : Loaded} → l ≡ loaded 0 bytes → l .answer ≡ load.Loaded → Valid (l .book)
 loaded-valid bytes {l} e g =
-    subst (λ (x : Loaded). Valid (x .book)) (sym e) (loads-only-forms bytes (ap (λ (x : Loaded). x .answer) (sym e) ∙ g) .valid)
+    subst (λ (x : Loaded). Valid (x .book)) (sym e) (loads-only-forms 0 bytes (ap (λ (x : Loaded). x .answer) (sym e) ∙ g) .valid)
 
 -- the bytes that are loaded
 module _ (size : ℕ) (buffer : List ℕ) where
@@ -147,20 +150,41 @@ module _ (size : ℕ) (buffer : List ℕ) where
   pub front-whole : size ≤ length buffer → take size buffer ≡ front size buffer
   front-whole h = ap (λ (t : Bool). take (cond t 0 size) buffer) (sym (le-ltb _ _ h))
 
--- a store that is refused has written nothing
-pub short-kept : (b : Book) (buffer : List ℕ) (r : Refusal) → storeAnswer b buffer ≡ store.Refused r → afterStore b buffer ≡ buffer
-unfolding storeAnswer afterStore formAnswer afterForm
-short-kept b buffer r = go (hasMarked b)
+-- a form for which there is no room is not written
+pub form-kept : (form : Form) (b : Book) (buffer : List ℕ) → (storeInNumbers (formAnswer form b buffer) .number ≡ 0 → ⊥)
+    → afterForm form b buffer ≡ buffer
+unfolding formAnswer afterForm
+form-kept form b buffer = go (ltb (length buffer) (lengthOf form b))
   where
-    form : (t : Bool) → cond t (store.Refused BufferShort) (store.Stored (lengthOf b)) ≡ store.Refused r
-        → cond t buffer (storedForm b ++ drop (lengthOf b) buffer) ≡ buffer
-    form true e = refl
-    form false e = let z : _≡_ {A = ℕ} 0 1 = cc in absurd (omega arith)
+    go : (t : Bool) → (storeInNumbers (cond t (store.Refused BufferShort) (store.Stored (lengthOf form b))) .number ≡ 0 → ⊥)
+        → cond t buffer (storedForm form b ++ drop (lengthOf form b) buffer) ≡ buffer
+    go true h = refl
+    go false h = absurd (h refl)
 
-    go : (t : Bool) → cond t (store.Refused MarkedRecord) (formAnswer b buffer) ≡ store.Refused r
-        → cond t buffer (afterForm b buffer) ≡ buffer
-    go true e = refl
-    go false e = form (ltb (length buffer) (lengthOf b)) e
+-- a form is written, and the length is all that is given
+pub written-change : {answer defined : StoreAnswer} {buffer-after defined-after lent lent-after : List ℕ} {result : ℕ}
+    → (answer ≡ defined) × (buffer-after ≡ defined-after) → Answered (storeInNumbers answer) lent lent-after result
+    → Changed (record { answer = storeInNumbers defined; buffer = defined-after }) buffer-after lent lent-after result
+written-change e a = record { answered = answered-as (ap storeInNumbers (e .0)) a; left = e .1 }
+
+-- so it is of a book that is stored with no values before the length
+pub storing-plain : (b : Book) (buffer : List ℕ)
+    → record { answer = storeInNumbers (storeAnswer b buffer); buffer = afterStore b buffer } ≡ storing [] b buffer
+unfolding formAnswer afterForm
+storing-plain b buffer = go (ltb (length buffer) (lengthOf New b))
+  where
+    answerIf : Bool → StoreAnswer
+    answerIf t = cond t (store.Refused BufferShort) (store.Stored (lengthOf New b))
+
+    afterIf : Bool → List ℕ
+    afterIf t = cond t buffer (storedForm New b ++ drop (lengthOf New b) buffer)
+
+    go : (t : Bool) → _≡_ {A = Outcome} (record { answer = storeInNumbers (answerIf t); buffer = afterIf t })
+        (onSuccess (storeInNumbers (answerIf t))
+        (record { answer = gives ([] ++ storeInNumbers (answerIf t) .values); buffer = afterIf t })
+        (refusing (storeInNumbers (answerIf t)) buffer))
+    go true = refl
+    go false = refl
 
 -- the outcome of a call that stores a book
 module _ (values : List ℕ) (b : Book) (buffer : List ℕ) {buffer-after : List ℕ} {answer : StoreAnswer}
@@ -187,4 +211,8 @@ module _ (values : List ℕ) (b : Book) (buffer : List ℕ) {buffer-after : List
       → Answered (refuses r) lent lent-after result
       → Changed (storing values b buffer) buffer-after lent lent-after result
   short-change {r = r} g a =
-      changed-as (sym (on-refusal r _ _) ∙ by-store g) (record { answered = a; left = e .1 ∙ short-kept b buffer r (sym (e .0) ∙ g) })
+      let refused : storeInNumbers (storeAnswer b buffer) .number ≡ numberOf r =
+      ap (λ (s : StoreAnswer). storeInNumbers s .number) (sym (e .0) ∙ g)
+      in
+      let kept : afterStore b buffer ≡ buffer = form-kept New b buffer (λ z. omega (arith, line-of r refl .0)) in
+      changed-as (sym (on-refusal r _ _) ∙ by-store g) (record { answered = a; left = e .1 ∙ kept })

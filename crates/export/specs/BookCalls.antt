@@ -1,5 +1,5 @@
 -- The calls on a book: each loads it, acts, and stores it again if it may have changed.
-use Prim.Native.Nat.{ℕ, _+_, _%_}
+use Prim.Native.Nat.{ℕ, _+_, _/_, _%_}
 use mathlib.Core.Bool.{cond}
 use mathlib.Core.List.{List, [], _∷_, _++_}
 use lib.Dec.{eqb, ltb}
@@ -14,8 +14,10 @@ use Rattle.book.specs.Removals.{removed, removeInNumbers}
 use Rattle.book.specs.Confirmations.{confirmed, confirmInNumbers}
 use Rattle.book.specs.Orders.{shownTo, showInNumbers}
 use Rattle.book.specs.Holders.{heldFor, holderInNumbers}
+use Rattle.book.specs.Revisions.{revision}
 use Rattle.stored.specs.Storing.{storeAnswer, afterStore, storeInNumbers}
 use Rattle.stored.specs.Loading.{loaded, loadInNumbers}
+use Rattle.stored.specs.Converting.{convertAnswer, afterConvert, backAnswer, afterBack}
 use Rattle.export.specs.Outcomes.{Outcome, onSuccess}
 
 -- the first `size` bytes of a buffer; of one that has fewer, none: load answers 18
@@ -26,7 +28,7 @@ front size buffer = take (cond (ltb (length buffer) size) 0 size) buffer
 abbrev pub refusing : InNumbers → List ℕ → Outcome
 refusing answer buffer = record { answer = answer; buffer = buffer }
 
--- the book is stored: these values, and the length of the stored form behind them; or 25 or 17
+-- the book is stored: these values, and the length of the stored form behind them; or 17
 abbrev pub storing : List ℕ → Book → List ℕ → Outcome
 storing values b buffer =
     onSuccess (storeInNumbers (storeAnswer b buffer))
@@ -37,12 +39,12 @@ storing values b buffer =
 abbrev pub changing : InNumbers → Book → List ℕ → Outcome
 changing answer b buffer = onSuccess answer (storing (answer .values) b buffer) (refusing answer buffer)
 
--- a grant on a book; the record of a crew other than the desk has no stored form
+-- a grant on a book
 abbrev pub grantOn : Book → ℕ → ℕ → ℕ → ℕ → ℕ → List ℕ → Outcome
 grantOn b x y way colour crew buffer =
     changing (grantInNumbers (granted b x y way colour crew .answer)) (granted b x y way colour crew .book) buffer
 
--- a removal on a book; the record that it leaves pending has no stored form
+-- a removal on a book
 abbrev pub removeOn : Book → ℕ → List ℕ → Outcome
 removeOn b serial buffer = changing (removeInNumbers (removed b serial .answer)) (removed b serial .book) buffer
 
@@ -50,12 +52,12 @@ removeOn b serial buffer = changing (removeInNumbers (removed b serial .answer))
 abbrev pub confirmOn : Book → ℕ → List ℕ → Outcome
 confirmOn b serial buffer = changing (confirmInNumbers (confirmed b serial .answer)) (confirmed b serial .book) buffer
 
--- 18, 19 or 20, or a change of the book that was loaded from the first `size` bytes
+-- 18, 19 or 20, or a change of the book that was loaded from the first `size` bytes, of whatever revision
 abbrev pub loadedThen : List ℕ → ℕ → (Book → Outcome) → Outcome
 loadedThen buffer size change =
-    onSuccess (loadInNumbers (loaded (front size buffer) .answer))
-    (change (loaded (front size buffer) .book))
-    (refusing (loadInNumbers (loaded (front size buffer) .answer)) buffer)
+    onSuccess (loadInNumbers (loaded 0 (front size buffer) .answer))
+    (change (loaded 0 (front size buffer) .book))
+    (refusing (loadInNumbers (loaded 0 (front size buffer) .answer)) buffer)
 
 -- open, store: the length
 unfoldable pub openCall : ℕ → ℕ → List ℕ → Outcome
@@ -73,18 +75,35 @@ removeCall buffer size serial = loadedThen buffer size (λ (b : Book). removeOn 
 unfoldable pub confirmCall : List ℕ → ℕ → ℕ → Outcome
 confirmCall buffer size serial = loadedThen buffer size (λ (b : Book). confirmOn b serial buffer)
 
--- 18, 19 or 20, or the answer to a question to the book that was loaded
-abbrev pub askedOf : List ℕ → (Book → InNumbers) → InNumbers
-askedOf bytes question =
-    onSuccess (loadInNumbers (loaded bytes .answer)) (question (loaded bytes .book)) (loadInNumbers (loaded bytes .answer))
+-- 18, 19, 20 or 28, or the answer to a question to the book that was loaded under a lowest revision
+abbrev pub askedOf : ℕ → List ℕ → (Book → InNumbers) → InNumbers
+askedOf lowest bytes question =
+    onSuccess (loadInNumbers (loaded lowest bytes .answer)) (question (loaded lowest bytes .book))
+    (loadInNumbers (loaded lowest bytes .answer))
+
+-- a number of 32 bits in two values: the low 16 bits, and the high ones
+abbrev pub halves : ℕ → List ℕ
+halves x = x % 65536 ∷ x / 65536 ∷ []
+
+-- load under a lowest revision: the revision
+unfoldable pub loadCall : List ℕ → ℕ → InNumbers
+loadCall bytes lowest = askedOf lowest bytes (λ (b : Book). gives (halves (revision b)))
 
 -- load, show to a crew
 unfoldable pub showCall : List ℕ → ℕ → ℕ → InNumbers
-showCall bytes serial crew = askedOf bytes (λ (b : Book). showInNumbers (shownTo crew b serial))
+showCall bytes serial crew = askedOf 0 bytes (λ (b : Book). showInNumbers (shownTo crew b serial))
 
 -- load, ask for the holder, as far as a crew may know
 unfoldable pub holderCall : List ℕ → ℕ → ℕ → ℕ → InNumbers
-holderCall bytes link colour crew = askedOf bytes (λ (b : Book). holderInNumbers (heldFor crew b link colour))
+holderCall bytes link colour crew = askedOf 0 bytes (λ (b : Book). holderInNumbers (heldFor crew b link colour))
+
+-- convert from the old form to the new one: the length
+unfoldable pub convertCall : List ℕ → List ℕ → Outcome
+convertCall bytes buffer = record { answer = storeInNumbers (convertAnswer bytes buffer); buffer = afterConvert bytes buffer }
+
+-- convert from the new form back to the old one: the length
+unfoldable pub convertBackCall : List ℕ → List ℕ → Outcome
+convertBackCall bytes buffer = record { answer = storeInNumbers (backAnswer bytes buffer); buffer = afterBack bytes buffer }
 
 -- the line whose five numbers stand from an entry on
 abbrev pub lineAt : List ℕ → ℕ → Line
@@ -111,4 +130,4 @@ linesOfEntries entries = cond (eqb (length entries % 5) 0) (fives entries) []
 
 -- load, preview: how many serials, the line and the number of its refusal or 65,535 and 0, the serials
 unfoldable pub previewCall : List ℕ → List ℕ → InNumbers
-previewCall bytes entries = askedOf bytes (λ (b : Book). previewInNumbers (previewedAll b (linesOfEntries entries)))
+previewCall bytes entries = askedOf 0 bytes (λ (b : Book). previewInNumbers (previewedAll b (linesOfEntries entries)))

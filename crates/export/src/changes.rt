@@ -1,5 +1,6 @@
 // Changes of a book, whose stored form lies in a buffer of the caller's.
 use super::values::put;
+use super::values::put_stored;
 use super::values::refused;
 use book::Book;
 use book::books::OpenAnswer;
@@ -27,13 +28,7 @@ fn keep(book: Book, buffer: &mut [u8], values: &mut [u16]) -> u16
     ensures { λ r. ⌜ Changed (storing [] book (now (buffer .entry))) (now (buffer .exit)) (now (values .entry)) (now (values .exit)) r ⌝ }
 {
     let answer = store(book, buffer);
-    match answer {
-        StoreAnswer::Stored(length) => {
-            put(values, 0, length);
-            0
-        }
-        StoreAnswer::Refused(refusal) => refused(refusal, values),
-    }
+    put_stored(answer, values)
 }
 
 // Opens a book on n nodes with w colours and stores it. Value: the length of its stored form.
@@ -52,14 +47,14 @@ pub extern "C" fn tarziloen_book_open(n: u16, w: u16, buffer: &mut [u8], values:
     }
 }
 
-// Loads the book in the first bytes of a buffer; 18 if the buffer has fewer.
+// Loads the book in the first bytes of a buffer, of whatever revision; 18 if the buffer has fewer.
 fn load_front(buffer: &[u8], length: usize) -> Loaded
-    ensures { λ r. ⌜ r ≡ loaded (front length (now (buffer .entry))) ⌝ }
+    ensures { λ r. ⌜ r ≡ loaded 0 (front length (now (buffer .entry))) ⌝ }
 {
     if buffer.len() < length {
-        return load(&buffer[..0]);
+        return load(&buffer[..0], 0);
     }
-    load(&buffer[..length])
+    load(&buffer[..length], 0)
 }
 
 // Stores a book with a new circuit. Values: its serial, the length.
@@ -78,7 +73,7 @@ fn keep_granted(book: Book, serial: u16, buffer: &mut [u8], values: &mut [u16]) 
     }
 }
 
-// Grants a circuit in a book, and stores it: 25 where the book accepts and the crew is not the desk.
+// Grants a circuit in a book, and stores it.
 fn grant_in(
     book: Book,
     x: u16,
@@ -104,8 +99,7 @@ fn grant_in(
     }
 }
 
-// Grants a circuit in the book in the first bytes of the buffer. Values: its serial, the length of the stored form. While that form has no
-// room for states and crews, a grant of a crew other than the desk that the book accepts is refused by 25, and no serial is given.
+// Grants a circuit in the book in the first bytes of the buffer. Values: its serial, the length of the stored form.
 #[no_mangle]
 pub extern "C" fn tarziloen_book_grant(
     buffer: &mut [u8],
@@ -131,7 +125,7 @@ pub extern "C" fn tarziloen_book_grant(
     }
 }
 
-// Removes an order from a book, and stores it: 25 where the book accepts, since the order's record is pending then.
+// Removes an order from a book, whose record is pending then, and stores it.
 fn remove_in(book: Book, serial: u16, buffer: &mut [u8], values: &mut [u16]) -> u16
     ensures { λ r. ⌜ Changed (removeOn book serial (now (buffer .entry))) (now (buffer .exit)) (now (values .entry))
         (now (values .exit)) r ⌝ }
@@ -147,8 +141,7 @@ fn remove_in(book: Book, serial: u16, buffer: &mut [u8], values: &mut [u16]) -> 
     }
 }
 
-// Removes an order from the book in the first bytes of the buffer. Value: the length of the stored form. While that form has no room for
-// states and crews, a removal that the book accepts is refused by 25, and the order stays live.
+// Removes an order from the book in the first bytes of the buffer. Value: the length of the stored form.
 #[no_mangle]
 pub extern "C" fn tarziloen_book_remove(
     buffer: &mut [u8],
@@ -186,8 +179,7 @@ fn confirm_in(book: Book, serial: u16, buffer: &mut [u8], values: &mut [u16]) ->
     }
 }
 
-// Confirms the pull of a removed order in the book in the first bytes of the buffer. Value: the length of the stored form. While that form
-// has no room for states and crews, the book has no pending record, and accepts no confirmation.
+// Confirms the pull of a removed order in the book in the first bytes of the buffer. Value: the length of the stored form.
 #[no_mangle]
 pub extern "C" fn tarziloen_book_confirm(
     buffer: &mut [u8],

@@ -1,6 +1,7 @@
 // The product as a static library with a C interface, on numbers and slices only.
 pub mod calls;
 pub mod changes;
+pub mod files;
 pub mod previews;
 pub mod questions;
 pub mod values;

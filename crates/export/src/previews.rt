@@ -103,12 +103,12 @@ fn preview_in(book: Book, entries: &[u16], values: &mut [u16]) -> u16
 }
 
 // Tries lines, of five entries each, on the book in the bytes. Values: how many serials there are; the line that would be turned down and
-// the number of its refusal, or 65,535 and 0; the serials. Nothing is stored, so that lines of any crew are tried.
+// the number of its refusal, or 65,535 and 0; the serials. Nothing is stored.
 #[no_mangle]
 pub extern "C" fn tarziloen_book_preview(bytes: &[u8], lines: &[u16], values: &mut [u16]) -> u16
     ensures { λ r. ⌜ Answered (previewCall (now (bytes .entry)) (now (lines .entry))) (now (values .entry)) (now (values .exit)) r ⌝ }
 {
-    let loaded = load(bytes);
+    let loaded = load(bytes, 0);
     let answer = loaded.answer;
     match answer {
         LoadAnswer::Loaded => {

@@ -53,7 +53,7 @@ pub extern "C" fn tarziloen_book_show(
 ) -> u16
     ensures { λ r. ⌜ Answered (showCall (now (bytes .entry)) serial crew) (now (values .entry)) (now (values .exit)) r ⌝ }
 {
-    let loaded = load(bytes);
+    let loaded = load(bytes, 0);
     let answer = loaded.answer;
     match answer {
         LoadAnswer::Loaded => {
@@ -106,7 +106,7 @@ pub extern "C" fn tarziloen_book_holder(
 ) -> u16
     ensures { λ r. ⌜ Answered (holderCall (now (bytes .entry)) link colour crew) (now (values .entry)) (now (values .exit)) r ⌝ }
 {
-    let loaded = load(bytes);
+    let loaded = load(bytes, 0);
     let answer = loaded.answer;
     match answer {
         LoadAnswer::Loaded => {

@@ -4,10 +4,12 @@ use ring::Refusal;
 use ring::refusals::Carried;
 use ring::refusals::carried_by;
 use ring::refusals::number;
+use stored::StoreAnswer;
 ghost use mathlib.Core.Path.{_≡_};
 ghost use lib.ListN.{set};
 ghost use Rattle.ring.specs.Answers.{carriedValues, refuses};
 ghost use Rattle.planner.specs.Plan.{partNumber};
+ghost use Rattle.stored.specs.Storing.{storeInNumbers};
 ghost use Rattle.export.specs.Outcomes.{putFrom, Answered};
 
 // Stores a value, if there is an entry for it.
@@ -39,6 +41,19 @@ pub fn refused(refusal: Refusal, values: &mut [u16]) -> u16
 {
     put_carried(values, carried_by(refusal));
     number(refusal)
+}
+
+// What came of storing a book. Value: the length of the stored form.
+pub fn put_stored(answer: StoreAnswer, values: &mut [u16]) -> u16
+    ensures { λ r. ⌜ Answered (storeInNumbers answer) (now (values .entry)) (now (values .exit)) r ⌝ }
+{
+    match answer {
+        StoreAnswer::Stored(length) => {
+            put(values, 0, length);
+            0
+        }
+        StoreAnswer::Refused(refusal) => refused(refusal, values),
+    }
 }
 
 // 0 for the chain part, 1 for the pair part.

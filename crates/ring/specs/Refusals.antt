@@ -7,7 +7,8 @@ use Rattle.ring.specs.declared.refusals.Refusal.the-variants.{TableShort
 use Rattle.ring.specs.declared.refusals.Refusal.the-variants.{WayNumber, ColourNumber, ColourHeld, BookFull, SerialsUsedUp}
 use Rattle.ring.specs.declared.refusals.Refusal.the-variants.{SerialNeverGiven, SerialRemoved, LinkNumber, BufferShort, StoredLength}
 use Rattle.ring.specs.declared.refusals.Refusal.the-variants.{BlockCheck, StoredForm, TextForm, LineCount, SerialLive}
-use Rattle.ring.specs.declared.refusals.Refusal.the-variants.{SerialConfirmed, MarkedRecord, CrewNumber}
+use Rattle.ring.specs.declared.refusals.Refusal.the-variants.{SerialConfirmed, MarkedRecord, CrewNumber, MarkedConversion}
+use Rattle.ring.specs.declared.refusals.Refusal.the-variants.{RevisionLow}
 use Rattle.ring.specs.declared.refusals.Verdict.{Verdict}
 use Rattle.ring.specs.declared.refusals.Verdict.the-variants.{Allowed, Refused}
 use Rattle.ring.specs.declared.refusals.Carried.{Carried}
@@ -43,6 +44,8 @@ numberOf SerialLive = 23
 numberOf SerialConfirmed = 24
 numberOf MarkedRecord = 25
 numberOf CrewNumber = 26
+numberOf MarkedConversion = 27
+numberOf RevisionLow = 28
 
 -- "In plan and check, 4, 5 and 7 carry the request number, 8 both, the others none."
 abbrev pub carriedBy : Refusal → Carried
@@ -74,6 +77,8 @@ carriedBy SerialLive = None
 carriedBy SerialConfirmed = None
 carriedBy MarkedRecord = None
 carriedBy CrewNumber = None
+carriedBy MarkedConversion = None
+carriedBy RevisionLow = None
 
 -- a ground, if its test holds
 abbrev pub refuseIf : Bool → Refusal → Verdict

@@ -31,6 +31,8 @@ pub enum Refusal {
     SerialConfirmed,
     MarkedRecord,
     CrewNumber,
+    MarkedConversion,
+    RevisionLow,
 }
 
 // Whether a ground is there: the first one in the order of the rules, or none.
@@ -99,6 +101,8 @@ pub fn number(refusal: Refusal) -> u16
         Refusal::SerialConfirmed => 24,
         Refusal::MarkedRecord => 25,
         Refusal::CrewNumber => 26,
+        Refusal::MarkedConversion => 27,
+        Refusal::RevisionLow => 28,
     }
 }
 
@@ -135,5 +139,7 @@ pub fn carried_by(refusal: Refusal) -> Carried
         Refusal::SerialConfirmed => Carried::None,
         Refusal::MarkedRecord => Carried::None,
         Refusal::CrewNumber => Carried::None,
+        Refusal::MarkedConversion => Carried::None,
+        Refusal::RevisionLow => Carried::None,
     }
 }

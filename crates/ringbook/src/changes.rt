@@ -118,7 +118,7 @@ fn store_and_say(fd: i32, path: &[u8], beside: &[u8], bytes: &[u8], reply: &[u8]
 // Obeys the line alone with the book.
 fn change_alone(fd: i32, path: &[u8], beside: &[u8], line: &[u8]) -> bool {
     let mut reply = [0u8; 16384];
-    let mut form = [0u8; 5120];
+    let mut form = [0u8; 7168];
     let heard = hear(path, line, &mut reply, &mut form);
     let length = heard.reply;
     let size = heard.form;

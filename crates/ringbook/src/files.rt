@@ -54,7 +54,7 @@ fn hear_open(fd: i32, line: &[u8], reply: &mut [u8], form: &mut [u8]) -> Heard
     ensures within { λ r. ⌜ (r .reply ≤ length (now (reply .exit))) × (r .form ≤ length (now (form .exit))) ⌝ }
 {
     // One byte more than a stored form may have: a longer file shows by it.
-    let mut bytes = [0u8; 5121];
+    let mut bytes = [0u8; 7169];
     let reading = read_to_end(fd, &mut bytes);
     match reading {
         Reading::Read(length) => hear_bytes(true, &bytes[..length], line, reply, form),

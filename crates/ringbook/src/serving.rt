@@ -10,7 +10,7 @@ use book_text::obeying::Need;
 // A line that needs no file. Only a line that needs to write changes the book, so there is nothing to store.
 fn tell(line: &[u8]) -> bool {
     let mut reply = [0u8; 16384];
-    let mut form = [0u8; 5120];
+    let mut form = [0u8; 7168];
     let heard = hear_alone(line, &mut reply, &mut form);
     let length = heard.reply;
     say(&reply[..length])
@@ -19,7 +19,7 @@ fn tell(line: &[u8]) -> bool {
 // A question: the file as it is now answers it, and is left alone.
 fn ask(path: &[u8], line: &[u8]) -> bool {
     let mut reply = [0u8; 16384];
-    let mut form = [0u8; 5120];
+    let mut form = [0u8; 7168];
     let heard = hear(path, line, &mut reply, &mut form);
     let length = heard.reply;
     if heard.read {

@@ -1,19 +1,31 @@
 // One tool for the desk: `rings SUBCOMMAND [FILE]`. Each subcommand is a proved function on bytes; this reads its input and writes its
 // output.
+use book_text::replies::put_refused;
 use libc::STDERR_FILENO;
 use libc::STDIN_FILENO;
+use ring::Refusal;
 use ring::buffers::same_bytes;
+use ring::numbers::wide;
+use stored::StoreAnswer;
+use stored::conversions::convert;
+use stored::conversions::convert_back;
 use streams::Reading;
 use streams::answer;
 use streams::read_to_end;
+ghost use mathlib.Core.Path.{_≡_};
+ghost use mathlib.Core.Bool.{cond};
+ghost use Rattle.stored.specs.Converting.{convertAnswer, afterConvert, backAnswer, afterBack};
 
-// A line for each subcommand with what it reads, and an example.
+// A line for each subcommand with what it reads, and examples.
 fn usage() {
     answer(
         b"usage: rings SUBCOMMAND [FILE]   (without FILE, standard input is read)\n\
-check   reads a list as plan does, then a fate number for each request: how many are served, or the refusal\n\
-help    prints this\n\
-example: rings check samples/t10.txt\n",
+check         reads a list as plan does, then a fate number for each request: how many are served, or the refusal\n\
+convert       turns a stored book of the old form into the new form, from standard input to standard output\n\
+convert back  turns one of the new form into the old form, from standard input to standard output\n\
+help          prints this\n\
+example: rings check samples/t10.txt\n\
+example: rings convert <old.book >new.book\n",
     );
 }
 
@@ -24,6 +36,11 @@ fn print_check(text: &[u8]) {
     answer(&out[..size]);
 }
 
+// Says on standard error that the input cannot be read.
+fn say_unread() {
+    io::write_all(STDERR_FILENO, b"error the input cannot be read\n");
+}
+
 // The check of what can be read.
 fn check(input: i32) {
     // One byte more than a text may have: a longer input shows by it.
@@ -31,10 +48,67 @@ fn check(input: i32) {
     let reading = read_to_end(input, &mut text);
     match reading {
         Reading::Read(length) => print_check(&text[..length]),
-        Reading::Failed => {
-            io::write_all(STDERR_FILENO, b"error the input cannot be read\n");
-        }
+        Reading::Failed => say_unread(),
     }
+}
+
+// Says a refusal on standard error.
+fn say_refused(refusal: Refusal) {
+    let mut line = [0u8; 174];
+    let size = put_refused(&mut line, 0, refusal);
+    io::write_all(STDERR_FILENO, &line[..size]);
+}
+
+// Puts the other form of a stored book into a buffer.
+fn put_converted(bytes: &[u8], back: bool, out: &mut [u8]) -> StoreAnswer
+    ensures answer { λ r. ⌜ r ≡ cond back (backAnswer (now (bytes .entry)) (now (out .entry)))
+        (convertAnswer (now (bytes .entry)) (now (out .entry))) ⌝ }
+    ensures buffer { λ r. ⌜ now (out .exit) ≡ cond back (afterBack (now (bytes .entry)) (now (out .entry)))
+        (afterConvert (now (bytes .entry)) (now (out .entry))) ⌝ }
+{
+    if back {
+        return convert_back(bytes, out);
+    }
+    convert(bytes, out)
+}
+
+// The other form of a stored book to standard output, or its refusal.
+fn print_converted(bytes: &[u8], back: bool) {
+    let mut out = [0u8; 7168];
+    let converted = put_converted(bytes, back, &mut out);
+    match converted {
+        StoreAnswer::Stored(length) => {
+            let size = wide(length);
+            answer(&out[..size]);
+        }
+        StoreAnswer::Refused(refusal) => say_refused(refusal),
+    }
+}
+
+// The conversion of what can be read.
+fn convert_input(back: bool) {
+    // One byte more than a stored book may have: a longer input shows by it.
+    let mut bytes = [0u8; 7169];
+    let reading = read_to_end(STDIN_FILENO, &mut bytes);
+    match reading {
+        Reading::Read(length) => print_converted(&bytes[..length], back),
+        Reading::Failed => say_unread(),
+    }
+}
+
+// `convert`, alone or with `back` behind it.
+fn convert_as_told() {
+    if os::arg_count() < 3 {
+        convert_input(false);
+        return;
+    }
+    let mut word = [0u8; 16];
+    let length = os::arg(2, &mut word);
+    if os::errno() == 0 && same_bytes(&word[..length], b"back") {
+        convert_input(true);
+        return;
+    }
+    usage();
 }
 
 // The file that the second argument names, or standard input; below 0 if it cannot be opened, which is said.
@@ -67,6 +141,10 @@ fn main() {
         if 0 <= file {
             check(file);
         }
+        return;
+    }
+    if same_bytes(&word[..length], b"convert") {
+        convert_as_told();
         return;
     }
     usage();

@@ -9,11 +9,13 @@ use Rattle.ring.proofs.Cases.{compare, less, not-less}
 use Rattle.book.specs.declared.circuits.Circuit.{Circuit}
 use Rattle.ring.specs.declared.fates.Fate.the-variants.{Served}
 use Rattle.ring.specs.Fates.{fateNumber}
-use Rattle.stored.specs.Forms.{recordBytes}
+use Rattle.stored.specs.declared.forms.Form.{Form}
+use Rattle.stored.specs.declared.forms.Form.the-variants.{Old, New}
+use Rattle.stored.specs.Forms.{stateNumber, fieldsBytes, marksBytes, recordBytes}
 use Rattle.ring.specs.Buffers.{written}
 use Rattle.stored.specs.Blocks.{word, weighted, checkOf, numbered, blockOf}
 use Rattle.stored.specs.Internal.Handing.{sealed}
-use Rattle.ring.proofs.BufferLaws.{written-twice}
+use Rattle.ring.proofs.BufferLaws.{written-length, written-twice}
 use Rattle.stored.proofs.Lists.{pad, pad-none, pad-written, pad-zeros}
 
 -- a number of more than 16 bits is cut
@@ -89,12 +91,12 @@ sealed-steps k check l₀ l₁ l₂ e₁ c e₂ =
     ∙ ap (λ (y : ℕ). written l₁ 510 (word y)) c
     ∙ ap (λ (l : List ℕ). written l 510 (word (checkOf l))) e₁
 
-pub record-steps : (circuit : Circuit) (at fate : ℕ) (l₀ l₁ l₂ l₃ l₄ : List ℕ) → at + 8 ≤ length l₀
+pub field-steps : (circuit : Circuit) (at fate : ℕ) (l₀ l₁ l₂ l₃ l₄ : List ℕ) → at + 8 ≤ length l₀
     → fate ≡ fateNumber (Served (circuit .way) (circuit .colour)) % 65536
     → l₁ ≡ written l₀ at (word (circuit .serial)) → l₂ ≡ written l₁ (at + 2) (word (circuit .a))
     → l₃ ≡ written l₂ (at + 4) (word (circuit .b)) → l₄ ≡ written l₃ (at + 6) (word fate)
-    → l₄ ≡ written l₀ at (recordBytes circuit)
-record-steps circuit at fate l₀ l₁ l₂ l₃ l₄ h f e₁ e₂ e₃ e₄ =
+    → l₄ ≡ written l₀ at (fieldsBytes circuit)
+field-steps circuit at fate l₀ l₁ l₂ l₃ l₄ h f e₁ e₂ e₃ e₄ =
     let k₂ : l₂ ≡ written l₀ at (word (circuit .serial) ++ word (circuit .a)) = e₂
     ∙ ap (λ (l : List ℕ). written l (at + 2) (word (circuit .a))) e₁
     ∙ written-twice l₀ at (word (circuit .serial)) (word (circuit .a)) (omega arith) in
@@ -109,17 +111,38 @@ record-steps circuit at fate l₀ l₁ l₂ l₃ l₄ h f e₁ e₂ e₃ e₄ =
     ∙ written-twice l₀ at (word (circuit .serial) ++ word (circuit .a) ++ word (circuit .b))
     (word (fateNumber (Served (circuit .way) (circuit .colour)))) (omega arith)
 
-pub header-steps : (n w grants live : ℕ) (l₀ l₁ l₂ l₃ l₄ l₅ l₆ : List ℕ) → length l₀ ≡ 512 → l₁ ≡ replicate (length l₀) 0
-    → l₂ ≡ written l₁ 0 (word n) → l₃ ≡ written l₂ 2 (word w) → l₄ ≡ written l₃ 4 (word grants) → l₅ ≡ written l₄ 6 (word live)
-    → l₆ ≡ sealed 0 l₅
-    → l₆ ≡ blockOf 0 (word n ++ (word w ++ (word grants ++ word live)))
-header-steps n w grants live l₀ l₁ l₂ l₃ l₄ l₅ l₆ h e₁ e₂ e₃ e₄ e₅ e₆ =
+pub mark-steps : (circuit : Circuit) (at state : ℕ) (l₀ l₁ l₂ : List ℕ) → at + 4 ≤ length l₀ → state ≡ stateNumber (circuit .state)
+    → l₁ ≡ written l₀ at (word (circuit .crew)) → l₂ ≡ written l₁ (at + 2) (word state)
+    → l₂ ≡ written l₀ at (marksBytes New circuit)
+mark-steps circuit at state l₀ l₁ l₂ h f e₁ e₂ =
+    e₂
+    ∙ ap (λ (l : List ℕ). written l (at + 2) (word state)) e₁
+    ∙ ap (λ (y : ℕ). written (written l₀ at (word (circuit .crew))) (at + 2) (word y)) f
+    ∙ written-twice l₀ at (word (circuit .crew)) (word (stateNumber (circuit .state))) (omega arith)
+
+pub record-steps : (form : Form) (circuit : Circuit) (at : ℕ) (l₀ l₁ l₂ : List ℕ)
+    → at + 8 + length (marksBytes form circuit) ≤ length l₀
+    → l₁ ≡ written l₀ at (fieldsBytes circuit) → l₂ ≡ written l₁ (at + 8) (marksBytes form circuit)
+    → l₂ ≡ written l₀ at (recordBytes form circuit)
+record-steps form circuit at l₀ l₁ l₂ h e₁ e₂ =
+    e₂
+    ∙ ap (λ (l : List ℕ). written l (at + 8) (marksBytes form circuit)) e₁
+    ∙ written-twice l₀ at (fieldsBytes circuit) (marksBytes form circuit) h
+
+pub header-steps : (n w grants count mark : ℕ) (l₀ l₁ l₂ l₃ l₄ l₅ l₆ l₇ : List ℕ) → length l₀ ≡ 512 → l₁ ≡ replicate (length l₀) 0
+    → l₂ ≡ written l₁ 0 (word n) → l₃ ≡ written l₂ 2 (word w) → l₄ ≡ written l₃ 4 (word grants) → l₅ ≡ written l₄ 6 (word count)
+    → l₆ ≡ written l₅ 8 (word mark) → l₇ ≡ sealed 0 l₆
+    → l₇ ≡ blockOf 0 (word n ++ (word w ++ (word grants ++ (word count ++ word mark))))
+header-steps n w grants count mark l₀ l₁ l₂ l₃ l₄ l₅ l₆ l₇ h e₁ e₂ e₃ e₄ e₅ e₆ e₇ =
     let k₁ : l₁ ≡ pad [] = e₁ ∙ ap (λ (j : ℕ). replicate j 0) h ∙ sym pad-none in
     let k₂ : l₂ ≡ pad (word n) = e₂ ∙ ap (λ (l : List ℕ). written l 0 (word n)) k₁ ∙ pad-written [] (word n) 0 refl (omega arith) in
     let k₃ : l₃ ≡ pad (word n ++ word w) = e₃ ∙ ap (λ (l : List ℕ). written l 2 (word w)) k₂
     ∙ pad-written (word n) (word w) 2 refl (omega arith) in
     let k₄ : l₄ ≡ pad (word n ++ word w ++ word grants) = e₄ ∙ ap (λ (l : List ℕ). written l 4 (word grants)) k₃
     ∙ pad-written (word n ++ word w) (word grants) 4 refl (omega arith) in
-    let k₅ : l₅ ≡ pad (word n ++ word w ++ word grants ++ word live) = e₅ ∙ ap (λ (l : List ℕ). written l 6 (word live)) k₄
-    ∙ pad-written (word n ++ word w ++ word grants) (word live) 6 refl (omega arith) in
-    e₆ ∙ ap (sealed 0) k₅ ∙ sealed-pad 0 (word n ++ word w ++ word grants ++ word live) (omega arith)
+    let k₅ : l₅ ≡ pad (word n ++ word w ++ word grants ++ word count) = e₅ ∙ ap (λ (l : List ℕ). written l 6 (word count)) k₄
+    ∙ pad-written (word n ++ word w ++ word grants) (word count) 6 refl (omega arith) in
+    let k₆ : l₆ ≡ pad (word n ++ word w ++ word grants ++ word count ++ word mark) = e₆
+    ∙ ap (λ (l : List ℕ). written l 8 (word mark)) k₅
+    ∙ pad-written (word n ++ word w ++ word grants ++ word count) (word mark) 8 refl (omega arith) in
+    e₇ ∙ ap (sealed 0) k₆ ∙ sealed-pad 0 (word n ++ word w ++ word grants ++ word count ++ word mark) (omega arith)

@@ -11,8 +11,10 @@ use Rattle.ring.specs.Fates.{fateNumber}
 use Rattle.book.specs.declared.circuits.Circuit.{Circuit}
 use Rattle.book.specs.declared.books.Book.{Book}
 use Rattle.book.specs.Books.{recordsOf}
+use Rattle.stored.specs.declared.forms.Form.{Form}
+use Rattle.stored.specs.declared.forms.Form.the-variants.{Old, New}
 use Rattle.stored.specs.Blocks.{word, checkOf, numbered, blockOf}
-use Rattle.stored.specs.Forms.{recordBytes, recordsBytes, circuitsOf, contents}
+use Rattle.stored.specs.Forms.{stateNumber, formMark, fieldsBytes, marksBytes, recordBytes, recordsBytes, circuitsOf, contents}
 
 abbrev pub Bytes : List ℕ → Type 0
 Bytes l = (i : ℕ) → getD l i 0 < 256
@@ -41,31 +43,40 @@ zeros-bytes zero i = none-bytes i
 zeros-bytes (suc n) zero = omega arith
 zeros-bytes (suc n) (suc i) = zeros-bytes n i
 
-record-bytes : (c : Circuit) → Bytes (recordBytes c)
-record-bytes c =
+fields-bytes : (c : Circuit) → Bytes (fieldsBytes c)
+fields-bytes c =
     let fate = word (fateNumber (Served (c .way) (c .colour))) in
     append-bytes (word (c .serial)) (word (c .a) ++ (word (c .b) ++ fate)) (word-bytes (c .serial))
     (append-bytes (word (c .a)) (word (c .b) ++ fate) (word-bytes (c .a))
     (append-bytes (word (c .b)) fate (word-bytes (c .b)) (word-bytes (fateNumber (Served (c .way) (c .colour))))))
 
-records-bytes : (cs : List Circuit) → Bytes (recordsBytes cs)
-records-bytes [] = none-bytes
-records-bytes (c ∷ cs) = append-bytes (recordBytes c) (recordsBytes cs) (record-bytes c) (records-bytes cs)
+marks-bytes : (form : Form) (c : Circuit) → Bytes (marksBytes form c)
+marks-bytes Old c = none-bytes
+marks-bytes New c =
+    append-bytes (word (c .crew)) (word (stateNumber (c .state))) (word-bytes (c .crew)) (word-bytes (stateNumber (c .state)))
 
-contents-bytes : (b : Book) (k : ℕ) → Bytes (contents b k)
-contents-bytes b zero =
-    let live = word (length (recordsOf b)) in
-    append-bytes (word (b .n)) (word (b .w) ++ (word (b .grants) ++ live)) (word-bytes (b .n))
-    (append-bytes (word (b .w)) (word (b .grants) ++ live) (word-bytes (b .w))
-    (append-bytes (word (b .grants)) live (word-bytes (b .grants)) (word-bytes (length (recordsOf b)))))
-contents-bytes b (suc k) = records-bytes (circuitsOf b k)
+records-bytes : (form : Form) (cs : List Circuit) → Bytes (recordsBytes form cs)
+records-bytes form [] = none-bytes
+records-bytes form (c ∷ cs) =
+    append-bytes (recordBytes form c) (recordsBytes form cs)
+    (append-bytes (fieldsBytes c) (marksBytes form c) (fields-bytes c) (marks-bytes form c)) (records-bytes form cs)
 
-pub block-bytes : (b : Book) (k : ℕ) → Bytes (blockOf k (contents b k))
+contents-bytes : (form : Form) (b : Book) (k : ℕ) → Bytes (contents form b k)
+contents-bytes form b zero =
+    let count = word (length (recordsOf b)) in
+    let mark = word (formMark form) in
+    append-bytes (word (b .n)) (word (b .w) ++ (word (b .grants) ++ (count ++ mark))) (word-bytes (b .n))
+    (append-bytes (word (b .w)) (word (b .grants) ++ (count ++ mark)) (word-bytes (b .w))
+    (append-bytes (word (b .grants)) (count ++ mark) (word-bytes (b .grants))
+    (append-bytes count mark (word-bytes (length (recordsOf b))) (word-bytes (formMark form)))))
+contents-bytes form b (suc k) = records-bytes form (circuitsOf form b k)
+
+pub block-bytes : (form : Form) (b : Book) (k : ℕ) → Bytes (blockOf k (contents form b k))
 unfolding blockOf numbered
-block-bytes b k =
-    append-bytes (numbered k (contents b k)) (word (checkOf (numbered k (contents b k))))
-    (append-bytes (contents b k ++ replicate (508 - length (contents b k)) 0) (word k)
-    (append-bytes (contents b k) (replicate (508 - length (contents b k)) 0) (contents-bytes b k)
-    (zeros-bytes (508 - length (contents b k))))
+block-bytes form b k =
+    append-bytes (numbered k (contents form b k)) (word (checkOf (numbered k (contents form b k))))
+    (append-bytes (contents form b k ++ replicate (508 - length (contents form b k)) 0) (word k)
+    (append-bytes (contents form b k) (replicate (508 - length (contents form b k)) 0) (contents-bytes form b k)
+    (zeros-bytes (508 - length (contents form b k))))
     (word-bytes k))
-    (word-bytes (checkOf (numbered k (contents b k))))
+    (word-bytes (checkOf (numbered k (contents form b k))))

@@ -41,15 +41,18 @@ fits-placed n w c serial h k e =
     let t = and-true _ _ e in
     let f = and-true _ _ (t .0) in
     let p = and-true _ _ (f .0) in
+    let q = and-true _ _ (f .1) in
     let last : c .b < n = ltb-true _ _ (p .1) in
-    let colour : c .colour < w = ltb-true _ _ (f .1) in
+    let colour : c .colour < w = ltb-true _ _ (q .0) in
     record { ordered = ltb-true _ _ (p .0); nodes = omega arith; colours = omega arith }
 
 fits-node : (n w : ℕ) (c : Circuit) (serial : Bool) → (circuitFits n w c && serial) ≡ true → c .b < n
 unfolding circuitFits
 fits-node n w c serial e =
-    let t = and-true ((ltb (c .a) (c .b) && ltb (c .b) n) && ltb (c .colour) w) serial e in
-    let f = and-true (ltb (c .a) (c .b) && ltb (c .b) n) (ltb (c .colour) w) (t .0) in
+    let nodes = ltb (c .a) (c .b) && ltb (c .b) n in
+    let numbers = ltb (c .colour) w && leb (c .crew) 999 in
+    let t = and-true (nodes && numbers) serial e in
+    let f = and-true nodes numbers (t .0) in
     ltb-true (c .b) n (and-true (ltb (c .a) (c .b)) (ltb (c .b) n) (f .0) .1)
 
 pub follows-not : (rows : List (List ℕ)) (fits : Bool) (c : Circuit) → fits ≡ false → NextHolds rows rows fits c false

@@ -14,9 +14,8 @@ use Rattle.ring.proofs.WayLaws.{not-both, found-some, none-some}
 use Rattle.book.specs.declared.circuits.Circuit.{Circuit}
 use Rattle.book.specs.declared.books.Book.{Book}
 use Rattle.book.specs.Circuits.{vacant, circuit, endsOf, holds}
-use Rattle.book.specs.Books.{recordsOf, hasMarked, bookOf, Valid, ValidCircuits}
+use Rattle.book.specs.Books.{recordsOf, bookOf, Valid, ValidCircuits}
 use Rattle.book.specs.Grants.{heldIn, heldOnWay}
-use Rattle.book.proofs.Marks.{none-marked}
 use Rattle.book.proofs.ConflictLaws.{true-and}
 use Rattle.book.proofs.CircuitLists.{Place, some-place, place-some}
 use Rattle.stored.specs.Validity.{ringFits, circuitFits, serialFits, mayFollow, lastSerial, circuitsFit, bookFits}
@@ -59,7 +58,8 @@ module _ (b : Book) where
         let g = v .circuits .given i h in
         true-and _ _
         (true-and _ _
-        (true-and _ _ (true-and _ _ (lt-ltb _ _ (e .0)) (lt-ltb _ _ (e .1))) (lt-ltb _ _ k))
+        (true-and _ _ (true-and _ _ (lt-ltb _ _ (e .0)) (lt-ltb _ _ (e .1)))
+        (true-and _ _ (lt-ltb _ _ k) (le-leb _ _ (v .circuits .crews i h))))
         (true-and _ _ (lt-ltb _ _ (last-below i h)) (le-leb _ _ (g .1))))
         (ap not (not-held i h))
 
@@ -92,6 +92,7 @@ module _ (b : Book) where
     pub ordered : at i .a < at i .b
     pub nodes : at i .b < b .n
     pub colour : at i .colour < b .w
+    pub crew : at i .crew ≤ 999
     pub above : lastSerial cs i < at i .serial
     pub given : at i .serial ≤ b .grants
     pub free : heldOnWay (b .n) (take i cs) (at i .way) (endsOf (at i)) (at i .colour) ≡ false
@@ -103,11 +104,13 @@ module _ (b : Book) where
       let t = and-true _ _ (s .0) in
       let f = and-true _ _ (t .0) in
       let p = and-true _ _ (f .0) in
+      let q = and-true _ _ (f .1) in
       let g = and-true _ _ (t .1) in
       record {
         ordered = ltb-true _ _ (p .0);
         nodes = ltb-true _ _ (p .1);
-        colour = ltb-true _ _ (f .1);
+        colour = ltb-true _ _ (q .0);
+        crew = leb-true _ _ (q .1);
         above = ltb-true _ _ (g .0);
         given = leb-true _ _ (g .1);
         free = not-true _ (s .1);
@@ -141,22 +144,22 @@ module _ (b : Book) where
         (true-and (uses (at j .way) (endsOf (at j)) link) (heldIn (take j cs) link (at j .colour)) (q .1) held))
         (few j k .free))
 
-    pub valid-circuits : hasMarked b ≡ false → length cs ≤ 512 → ValidCircuits (b .n) (b .w) (b .grants) cs
-    valid-circuits unmarked room =
+    pub valid-circuits : length cs ≤ 512 → ValidCircuits (b .n) (b .w) (b .grants) cs
+    valid-circuits room =
         record {
           room = room;
           given = λ i h. let f = few i h .above in (omega arith, few i h .given);
           rising = rises;
           ends = λ i h. (few i h .ordered, few i h .nodes);
           colours = λ i h. few i h .colour;
-          crews = λ i h. let desks = none-marked b unmarked i h .1 in omega arith;
+          crews = λ i h. few i h .crew;
           apart = apart;
         }
 
-  pub fits-valid : bookFits b ≡ true → hasMarked b ≡ false → b ≡ bookOf (b .n) (b .w) (b .grants) cs → length cs ≤ 512
+  pub fits-valid : bookFits b ≡ true → b ≡ bookOf (b .n) (b .w) (b .grants) cs → length cs ≤ 512
       → b .grants ≤ 65535 → Valid b
   unfolding bookFits ringFits
-  fits-valid e unmarked form room few =
+  fits-valid e form room few =
       let s = and-true _ _ e in
       let t = and-true _ _ (s .0) in
       let n = and-true _ _ (t .0) in
@@ -166,5 +169,5 @@ module _ (b : Book) where
         colours = (leb-true _ _ (w .0), leb-true _ _ (w .1));
         few = few;
         form = form;
-        circuits = valid-circuits (λ i h. following i (each-follows (length cs) (s .1) i h)) unmarked room;
+        circuits = valid-circuits (λ i h. following i (each-follows (length cs) (s .1) i h)) room;
       }

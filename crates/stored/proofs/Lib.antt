@@ -1,7 +1,9 @@
 -- The laws that the functions' proofs cite, and the theorems whose statements stand in specs/:
--- Promised (ReadsBack, LoadsOnlyForms), Changes (ChangeRefused), StoredHistories.
+-- Promised (ReadsBack, LoadsOnlyForms and those of the old form), ConversionLaws (EveryOldConverts), Changes (ChangeRefused,
+-- OldChangeRefused), StoredHistories (StoredHistories, NeverRevives).
 pub mod Lists
 pub mod Tables
+pub mod FormLaws
 pub mod Checks
 pub mod BlockLaws
 pub mod RecordLaws
@@ -14,6 +16,7 @@ pub mod BlockReading
 pub mod RoundTrip
 pub mod Fitting
 pub mod Promised
+pub mod ConversionLaws
 pub mod Bytes
 pub mod CheckChanges
 pub mod Changes

@@ -1,12 +1,15 @@
 -- A book kept as bytes between calls, from its opening on.
-use Prim.Native.Nat.{ℕ}
+use Prim.Native.Nat.{ℕ, _≤_}
 use mathlib.Core.Path.{_≡_}
-use mathlib.Core.Bool.{false}
+use mathlib.Core.Bool.{true}
 use mathlib.Core.List.{List}
+use lib.ListN.{drop}
 use Rattle.ring.specs.declared.refusals.Verdict.the-variants.{Allowed}
 use Rattle.ring.specs.Admission.{ringVerdict}
-use Rattle.book.specs.Books.{hasMarked, opened}
-use Rattle.book.specs.History.{Call, run, history, AfterHistory}
+use Rattle.book.specs.Books.{opened}
+use Rattle.book.specs.Revisions.{revision, NotShown}
+use Rattle.book.specs.History.{Call, run, history, wasRemoved, AfterHistory}
+use Rattle.stored.specs.declared.forms.Form.the-variants.{New}
 use Rattle.stored.specs.declared.loads.LoadAnswer.the-variants as answer
 use Rattle.stored.specs.declared.loads.Loaded.{Loaded}
 use Rattle.stored.specs.Forms.{storedForm}
@@ -15,11 +18,21 @@ use Rattle.stored.specs.Loading.{loaded}
 -- the bytes are the stored form of the book after these calls, the latest first, from the opening of a book with n nodes and w colours;
 -- they load as that book, and what it answers is said of the calls and their answers
 pub record StoredAfter (n w : ℕ) (calls : List Call) (bytes : List ℕ) : Type 0 where
-  pub form : bytes ≡ storedForm (run (opened n w .book) calls)
-  pub loads : loaded bytes ≡ record { answer = answer.Loaded; book = run (opened n w .book) calls }
+  pub form : bytes ≡ storedForm New (run (opened n w .book) calls)
+  pub loads : (lowest : ℕ) → lowest ≤ revision (run (opened n w .book) calls)
+      → loaded lowest bytes ≡ record { answer = answer.Loaded; book = run (opened n w .book) calls }
   pub after : AfterHistory n w (history (opened n w .book) calls) (run (opened n w .book) calls)
 
--- it is so of every list of calls from an opening that leaves no record that is pending or of another crew than the desk
+-- it is so of every list of calls from an opening
 abbrev pub StoredHistories : Type 0
 StoredHistories = (n w : ℕ) → ringVerdict n w ≡ Allowed → (calls : List Call)
-    → hasMarked (run (opened n w .book) calls) ≡ false → StoredAfter n w calls (storedForm (run (opened n w .book) calls))
+    → StoredAfter n w calls (storedForm New (run (opened n w .book) calls))
+
+-- "among files of one book with no load in its past, a tablet that passes its latest revision never revives an order removed by that
+-- revision": of a list of calls from an opening, the latest first, two moments are taken, before the last i and before the last j of them;
+-- an order removed by the one is not shown by the file of the other, if it loads under the revision of the one as lowest
+abbrev pub NeverRevives : Type 0
+NeverRevives = (n w : ℕ) → ringVerdict n w ≡ Allowed → (calls : List Call) (i j serial : ℕ)
+    → wasRemoved (history (opened n w .book) (drop i calls)) serial ≡ true
+    → let file = loaded (revision (run (opened n w .book) (drop i calls))) (storedForm New (run (opened n w .book) (drop j calls))) in
+    file .answer ≡ answer.Loaded → NotShown (file .book) serial

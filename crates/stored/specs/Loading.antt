@@ -11,36 +11,47 @@ use Rattle.ring.specs.Refusals.{refuseIf, orElse}
 use Rattle.ring.specs.Buffers.{sameBytes}
 use Rattle.ring.specs.Answers.{InNumbers, gives, refuses}
 use Rattle.book.specs.Books.{bookOf}
+use Rattle.book.specs.Revisions.{revision}
+use Rattle.stored.specs.declared.forms.Form.{Form}
+use Rattle.stored.specs.declared.forms.Form.the-variants.{Old, New}
 use Rattle.stored.specs.declared.loads.LoadAnswer.{LoadAnswer}
 use Rattle.stored.specs.declared.loads.LoadAnswer.the-variants as answer
 use Rattle.stored.specs.declared.loads.Loaded.{Loaded}
-use Rattle.stored.specs.Forms.{storedForm}
+use Rattle.stored.specs.Forms.{longest, storedForm}
 use Rattle.stored.specs.Reading.{blocksRight, bookIn}
 use Rattle.stored.specs.Validity.{bookFits}
 
--- "18 length 0, not a multiple of 512, or above 5,120"
-unfoldable pub lengthWrong : ℕ → Bool
-lengthWrong n = eqb n 0 || (not (eqb (n % 512) 0) || ltb 5120 n)
+-- "18 length 0, not a multiple of 512, or above 5,120", in the new form above 7,168
+unfoldable pub lengthWrong : Form → ℕ → Bool
+lengthWrong form n = eqb n 0 || (not (eqb (n % 512) 0) || ltb (longest form) n)
 
 -- the bytes are the stored form of the book that they tell, and it is a valid one
-unfoldable pub formRight : List ℕ → Bool
-formRight bytes = bookFits (bookIn bytes) && sameBytes bytes (storedForm (bookIn bytes))
+unfoldable pub formRight : Form → List ℕ → Bool
+formRight form bytes = bookFits (bookIn form bytes) && sameBytes bytes (storedForm form (bookIn form bytes))
 
 -- 18, then "19 a wrong block number or check" in any block, then 20, "anything else that breaks the stored form"
-unfoldable pub loadVerdict : List ℕ → Verdict
-loadVerdict bytes =
-    orElse (refuseIf (lengthWrong (length bytes)) ground.StoredLength)
+unfoldable pub formVerdict : Form → List ℕ → Verdict
+formVerdict form bytes =
+    orElse (refuseIf (lengthWrong form (length bytes)) ground.StoredLength)
     (orElse (refuseIf (not (blocksRight bytes (length bytes / 512))) ground.BlockCheck)
-    (refuseIf (not (formRight bytes)) ground.StoredForm))
+    (refuseIf (not (formRight form bytes)) ground.StoredForm))
+
+-- "28, revision too low, last in the load of this form"
+unfoldable pub loadVerdict : ℕ → List ℕ → Verdict
+loadVerdict lowest bytes = orElse (formVerdict New bytes) (refuseIf (ltb (revision (bookIn New bytes)) lowest) ground.RevisionLow)
 
 -- the book, or none: a book of no nodes, which turns every call down
-abbrev pub loadUnless : Verdict → List ℕ → Loaded
-loadUnless verdict.Allowed bytes = record { answer = answer.Loaded; book = bookIn bytes }
-loadUnless (verdict.Refused r) bytes = record { answer = answer.Refused r; book = bookOf 0 0 0 [] }
+abbrev pub loadUnless : Form → Verdict → List ℕ → Loaded
+loadUnless form verdict.Allowed bytes = record { answer = answer.Loaded; book = bookIn form bytes }
+loadUnless form (verdict.Refused r) bytes = record { answer = answer.Refused r; book = bookOf 0 0 0 [] }
 
--- "Load."
-unfoldable pub loaded : List ℕ → Loaded
-loaded bytes = loadUnless (loadVerdict bytes) bytes
+-- "Loading this form is told a lowest revision"
+unfoldable pub loaded : ℕ → List ℕ → Loaded
+loaded lowest bytes = loadUnless New (loadVerdict lowest bytes) bytes
+
+-- "Load.", of the old form
+unfoldable pub loadedOld : List ℕ → Loaded
+loadedOld bytes = loadUnless Old (formVerdict Old bytes) bytes
 
 -- the answer in numbers
 abbrev pub loadInNumbers : LoadAnswer → InNumbers

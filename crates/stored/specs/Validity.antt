@@ -14,9 +14,9 @@ use Rattle.book.specs.Grants.{heldOnWay}
 unfoldable pub ringFits : ℕ → ℕ → Bool
 ringFits n w = (leb 3 n && leb n 256) && (leb 1 w && leb w 128)
 
--- two nodes in order, and a colour
+-- two nodes in order, a colour and a crew
 unfoldable pub circuitFits : ℕ → ℕ → Circuit → Bool
-circuitFits n w c = (ltb (c .a) (c .b) && ltb (c .b) n) && ltb (c .colour) w
+circuitFits n w c = (ltb (c .a) (c .b) && ltb (c .b) n) && (ltb (c .colour) w && leb (c .crew) 999)
 
 -- "a rising serial from 1 up to the grants so far"
 unfoldable pub serialFits : ℕ → ℕ → ℕ → Bool

@@ -1,7 +1,9 @@
-// The length of the stored form for each live count.
+// The length of the stored form for each number of records.
+use super::forms::Form;
 use ring::numbers::wide;
 ghost use mathlib.Core.Path.{_≡_};
 ghost use Prim.Native.Nat.{_≤_};
+ghost use Rattle.stored.specs.declared.forms.Form.the-variants.{Old};
 ghost use Rattle.stored.specs.Forms.{storedLength};
 
 const LENGTHS: [u16; 513] = [
@@ -520,10 +522,20 @@ const LENGTHS: [u16; 513] = [
     5120,
 ];
 
-// The length for a live count, 0 to 512.
-pub fn stored_length(live: usize) -> usize
-    requires { ⌜ live ≤ 512 ⌝ }
-    ensures { λ r. ⌜ r ≡ storedLength live ⌝ }
+// In the old form, by a table.
+fn old_length(count: usize) -> usize
+    requires { ⌜ count ≤ 512 ⌝ }
+    ensures { λ r. ⌜ r ≡ storedLength Old count ⌝ }
 {
-    wide(LENGTHS[live])
+    wide(LENGTHS[count])
+}
+
+pub fn stored_length(form: Form, count: usize) -> usize
+    requires { ⌜ count ≤ 512 ⌝ }
+    ensures { λ r. ⌜ r ≡ storedLength form count ⌝ }
+{
+    match form {
+        Form::Old => old_length(count),
+        Form::New => 512 * ((count + 41) / 42 + 1),
+    }
 }

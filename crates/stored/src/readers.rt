@@ -1,6 +1,8 @@
 // Reading blocks, each from its own place.
 use super::blocks::block_right;
-use super::stores::block_share;
+use super::forms::Form;
+use super::forms::block_share;
+use super::forms::record_place;
 use super::words::word_at;
 use book::Book;
 use book::Circuit;
@@ -15,12 +17,13 @@ ghost use mathlib.Core.Path.{_≡_};
 ghost use Prim.Native.Nat.{_+_, _-_, _/_, _%_, _<_, _≤_, min};
 ghost use lib.ListN.{length};
 ghost use Rattle.book.specs.Books.{recordsOf};
-ghost use Rattle.stored.specs.Reading.{blocksRight, circuitAt, recordsIn, bookIn};
+ghost use Rattle.stored.specs.Forms.{recordSize, blockRecords};
+ghost use Rattle.stored.specs.Reading.{blocksRight, crewAt, stateOf, stateAt, circuitAt, recordsIn, bookIn};
 ghost use Rattle.stored.specs.Internal.Handing.{extended, ReadRoom};
 
 // Whether every block has its number and its check.
 pub fn blocks_right(bytes: &[u8]) -> bool
-    requires { ⌜ (length (now bytes) % 512 ≡ 0) × (length (now bytes) ≤ 5120) ⌝ }
+    requires { ⌜ (length (now bytes) % 512 ≡ 0) × (length (now bytes) ≤ 7168) ⌝ }
     ensures { λ r. ⌜ r ≡ blocksRight (now (bytes .entry)) (length (now (bytes .entry)) / 512) ⌝ }
 {
     let count = bytes.len() / 512;
@@ -35,40 +38,74 @@ pub fn blocks_right(bytes: &[u8]) -> bool
     right
 }
 
+// The crew of a record: the desk's number in the old form.
+fn crew_at(form: Form, block: &[u8], at: usize) -> u16
+    requires { ⌜ at + recordSize form ≤ length (now block) ⌝ }
+    ensures { λ r. ⌜ r ≡ crewAt form (now (block .entry)) at ⌝ }
+{
+    match form {
+        Form::Old => 0,
+        Form::New => word_at(block, at + 8),
+    }
+}
+
+fn state_of(number: u16) -> RecordState
+    ensures { λ r. ⌜ r ≡ stateOf number ⌝ }
+{
+    if number == 0 {
+        return RecordState::Live;
+    }
+    RecordState::Pending
+}
+
+// The state of a record: live in the old form.
+fn state_at(form: Form, block: &[u8], at: usize) -> RecordState
+    requires { ⌜ at + recordSize form ≤ length (now block) ⌝ }
+    ensures { λ r. ⌜ r ≡ stateAt form (now (block .entry)) at ⌝ }
+{
+    match form {
+        Form::Old => RecordState::Live,
+        Form::New => state_of(word_at(block, at + 10)),
+    }
+}
+
 // The circuit of a record.
-fn circuit_at(block: &[u8], at: usize) -> Circuit
-    requires { ⌜ at + 8 ≤ length (now block) ⌝ }
-    ensures { λ r. ⌜ r ≡ circuitAt (now (block .entry)) at ⌝ }
+fn circuit_at(form: Form, block: &[u8], at: usize) -> Circuit
+    requires { ⌜ at + recordSize form ≤ length (now block) ⌝ }
+    ensures { λ r. ⌜ r ≡ circuitAt form (now (block .entry)) at ⌝ }
 {
     let serial = word_at(block, at);
     let a = word_at(block, at + 2);
     let b = word_at(block, at + 4);
     let fate = fate_of(word_at(block, at + 6));
+    let crew = crew_at(form, block, at);
+    let state = state_at(form, block, at);
     match fate {
         Fate::Served(way, colour) => Circuit {
             serial: serial,
             a: a,
             b: b,
             way: way,
-            state: RecordState::Live,
+            state: state,
             colour: colour,
-            crew: 0,
+            crew: crew,
         },
         Fate::Blocked => Circuit::vacant(),
     }
 }
 
 // The book with the circuits of one block more.
-fn read_block(block: &[u8], book: Book, live: usize) -> Book
-    requires { ⌜ ReadRoom (now block) book live ⌝ }
-    ensures { λ r. ⌜ r ≡ extended book (recordsIn (now (block .entry)) (min 63 (live - length (recordsOf book)))) ⌝ }
+fn read_block(form: Form, block: &[u8], book: Book, total: usize) -> Book
+    requires { ⌜ ReadRoom (now block) book total ⌝ }
+    ensures { λ r. ⌜ r ≡ extended book
+        (recordsIn form (now (block .entry)) (min (blockRecords form) (total - length (recordsOf book)))) ⌝ }
 {
     let mut filled = book;
     let first = record_count(book);
-    let count = block_share(live - first);
+    let count = block_share(form, total - first);
     let mut i: usize = 0;
     while i < count {
-        let circuit = circuit_at(block, 8 * i);
+        let circuit = circuit_at(form, block, record_place(form, i));
         filled.places[first + i] = circuit;
         filled.records = narrow(first + i + 1);
         i += 1;
@@ -76,28 +113,28 @@ fn read_block(block: &[u8], book: Book, live: usize) -> Book
     filled
 }
 
-// A live count, of which no more than 512 are read.
-fn at_most_all(live: u16) -> usize
-    ensures { λ r. ⌜ r ≡ min 512 live ⌝ }
+// A count of records, of which no more than 512 are read.
+fn at_most_all(stated: u16) -> usize
+    ensures { λ r. ⌜ r ≡ min 512 stated ⌝ }
 {
-    let count = wide(live);
+    let count = wide(stated);
     if count < 512 { count } else { 512 }
 }
 
 // The book that the bytes tell.
-pub fn book_in(bytes: &[u8]) -> Book
-    requires { ⌜ (0 < length (now bytes)) × (length (now bytes) % 512 ≡ 0) × (length (now bytes) ≤ 5120) ⌝ }
-    ensures { λ r. ⌜ r ≡ bookIn (now (bytes .entry)) ⌝ }
+pub fn book_in(form: Form, bytes: &[u8]) -> Book
+    requires { ⌜ (0 < length (now bytes)) × (length (now bytes) % 512 ≡ 0) × (length (now bytes) ≤ 7168) ⌝ }
+    ensures { λ r. ⌜ r ≡ bookIn form (now (bytes .entry)) ⌝ }
 {
     let header = &bytes[0..512];
-    let live = at_most_all(word_at(header, 6));
+    let total = at_most_all(word_at(header, 6));
     let mut book = Book::blank(word_at(header, 0), word_at(header, 2), word_at(header, 4));
     let count = bytes.len() / 512;
     let mut block: usize = 1;
     while block < count {
         let start = block * 512;
         let end = start + 512;
-        book = read_block(&bytes[start..end], book, live);
+        book = read_block(form, &bytes[start..end], book, total);
         block += 1;
     }
     book

@@ -27,7 +27,8 @@ fn circuit_fits(n: u16, w: u16, circuit: Circuit) -> bool
     ensures { λ r. ⌜ r ≡ circuitFits n w circuit ⌝ }
 {
     let nodes = both(circuit.a < circuit.b, circuit.b < n);
-    both(nodes, circuit.colour < w)
+    let numbers = both(circuit.colour < w, circuit.crew <= 999);
+    both(nodes, numbers)
 }
 
 fn serial_fits(last: u16, grants: u16, serial: u16) -> bool
@@ -61,17 +62,17 @@ fn may_follow(
     hold(held, way, ends_of(circuit), circuit.colour as usize)
 }
 
-// Whether each live circuit may follow those before it. `may_follow` is handed numbers: the book would be copied for each circuit.
+// Whether each circuit may follow those before it. `may_follow` is handed numbers: the book would be copied for each circuit.
 fn circuits_fit(book: Book) -> bool
     requires { ⌜ ringFits (book .n) (book .w) ≡ true ⌝ }
     ensures { λ r. ⌜ r ≡ circuitsFit book (length (recordsOf book)) ⌝ }
 {
-    let live = record_count(book);
+    let count = record_count(book);
     let none = [0u64; 4];
     let mut held = [none; 128];
     let mut last: u16 = 0;
     let mut i: usize = 0;
-    while i < live {
+    while i < count {
         let circuit = book.places[i];
         let follows = may_follow(&mut held, book.n, book.w, book.grants, last, circuit);
         if !follows {

@@ -7,6 +7,7 @@ use Rattle.ring.specs.declared.refusals.Refusal.the-variants.{TableShort, FateN
 use Rattle.ring.specs.declared.refusals.Refusal.the-variants.{ColourNumber, ColourHeld, BookFull, SerialsUsedUp, SerialNeverGiven}
 use Rattle.ring.specs.declared.refusals.Refusal.the-variants.{SerialRemoved, LinkNumber, BufferShort, StoredLength, BlockCheck, StoredForm}
 use Rattle.ring.specs.declared.refusals.Refusal.the-variants.{TextForm, LineCount, SerialLive, SerialConfirmed, MarkedRecord, CrewNumber}
+use Rattle.ring.specs.declared.refusals.Refusal.the-variants.{MarkedConversion, RevisionLow}
 use Rattle.texts.specs.Bytes.{bytes}
 
 -- the ground's words, to the end of the line
@@ -30,7 +31,7 @@ groundOf SerialNeverGiven = bytes "serial 0 or never given\n"
 groundOf SerialRemoved = bytes "removed\n"
 groundOf LinkNumber = bytes "link n or more\n"
 groundOf BufferShort = bytes "buffer shorter than the length\n"
-groundOf StoredLength = bytes "length 0, not a multiple of 512, or above 5,120\n"
+groundOf StoredLength = bytes "length 0, not a multiple of 512, or above 7,168 (5,120 in the old form)\n"
 groundOf BlockCheck = bytes "a wrong block number or check\n"
 groundOf StoredForm =
     bytes "a record with fate number 0, or anything else that breaks the stored form, "
@@ -39,5 +40,7 @@ groundOf TextForm = bytes "more than 8,192 bytes, or a text not of the stated fo
 groundOf LineCount = bytes "no line or more than 16\n"
 groundOf SerialLive = bytes "the circuit is live\n"
 groundOf SerialConfirmed = bytes "already confirmed\n"
-groundOf MarkedRecord = bytes "a record that is pending or whose crew is not 0 cannot be stored\n"
+groundOf MarkedRecord = bytes "a record that is pending or whose crew is not 0 has no old form\n"
 groundOf CrewNumber = bytes "crew above 999\n"
+groundOf MarkedConversion = bytes "a record that is pending or whose crew is not 0 cannot be converted back\n"
+groundOf RevisionLow = bytes "revision too low\n"

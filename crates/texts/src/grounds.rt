@@ -9,7 +9,7 @@ ghost use Rattle.texts.specs.Grounds.{groundOf};
 ghost use Rattle.texts.specs.Internal.Writing.{Wrote};
 
 // The lines of the grounds, in the order of their numbers from 1.
-const GROUNDS: [u8; 895] = *b"n not 3 to 256\n\
+const GROUNDS: [u8; 1008] = *b"n not 3 to 256\n\
 w not 1 to 128\n\
 more than 512 requests, or an odd number of ends\n\
 an end is n or more\n\
@@ -26,18 +26,20 @@ serial 0 or never given\n\
 removed\n\
 link n or more\n\
 buffer shorter than the length\n\
-length 0, not a multiple of 512, or above 5,120\n\
+length 0, not a multiple of 512, or above 7,168 (5,120 in the old form)\n\
 a wrong block number or check\n\
 a record with fate number 0, or anything else that breaks the stored form, a limit, the rising serials from 1 up to the grants so far, or feasibility\n\
 more than 8,192 bytes, or a text not of the stated form\n\
 no line or more than 16\n\
 the circuit is live\n\
 already confirmed\n\
-a record that is pending or whose crew is not 0 cannot be stored\n\
-crew above 999\n";
+a record that is pending or whose crew is not 0 has no old form\n\
+crew above 999\n\
+a record that is pending or whose crew is not 0 cannot be converted back\n\
+revision too low\n";
 
 // The position behind the line of each ground.
-const ENDS: [u16; 27] = [
+const ENDS: [u16; 29] = [
     0,
     15,
     30,
@@ -56,15 +58,17 @@ const ENDS: [u16; 27] = [
     423,
     438,
     469,
-    517,
-    547,
-    697,
-    753,
+    541,
+    571,
+    721,
     777,
-    797,
-    815,
-    880,
-    895,
+    801,
+    821,
+    839,
+    903,
+    918,
+    991,
+    1008,
 ];
 
 // A ground in words, to the end of its line.

@@ -5,7 +5,7 @@ mod raw;
 
 use ring_planner::{buffers, Book, Crew, Line, Preview, Refusal, Way};
 
-use crate::reference::books::{Asked, NaiveBook, Previewed, DESK};
+use crate::reference::books::{Asked, NaiveBook, Previewed};
 use crate::reference::stored::encode;
 
 /// No value of a preview in these tests.
@@ -71,25 +71,14 @@ fn as_lines(lines: &[Asked]) -> Option<Vec<Line>> {
         .collect()
 }
 
-/// A line granted for real. What is granted to another crew than the desk cannot be stored, and is refused by 25 for that alone: it then
-/// goes to the desk, for which all the other grounds are the same.
-fn grant(buffer: &mut [u8], length: usize, line: Asked) -> Result<(u16, usize), Refusal> {
-    let [x, y, way, colour, crew] = line;
-    let mut to = |crew| buffers::grant(buffer, length, [x, y], way, colour, Crew(crew));
-    match to(crew) {
-        Err(refusal) if refusal.number == 25 && crew != DESK => to(DESK),
-        answer => answer,
-    }
-}
-
 /// The lines granted for real, up to the first that is refused.
 fn granted(form: &[u8], lines: &[Asked]) -> Previewed {
     let mut buffer = [0; Book::MAX_LENGTH];
     let mut length = form.len();
     buffer[..length].copy_from_slice(form);
     let mut serials = Vec::new();
-    for (i, &line) in lines.iter().enumerate() {
-        match grant(&mut buffer, length, line) {
+    for (i, &[x, y, way, colour, crew]) in lines.iter().enumerate() {
+        match buffers::grant(&mut buffer, length, [x, y], way, colour, Crew(crew)) {
             Ok((serial, after)) => {
                 serials.push(serial);
                 length = after;
@@ -108,7 +97,7 @@ pub fn agree(naive: &NaiveBook, lines: &[Asked], room: usize) -> Result<Previewe
     assert_eq!(call(&form, &entries, room), in_numbers(&want, room));
     assert_eq!(told(buffers::preview(&form, &entries)), want);
     if let Some(lines) = as_lines(lines) {
-        let book = Book::from_bytes(&form).unwrap();
+        let book = Book::from_bytes(&form, naive.revision()).unwrap();
         assert_eq!(told(book.preview(&lines)), want);
         assert_eq!(book.bytes(), form);
     }

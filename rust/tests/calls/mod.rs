@@ -1,10 +1,11 @@
-//! Calls that program `calls_run` plays on the proved book in memory, where no stored form is in the way of removals and crews.
+//! Calls that program `calls_run` plays on the proved book in memory, and the C interface on the same book in a buffer.
 #![allow(dead_code)]
 
-use ring_planner::Holder;
+use ring_planner::{buffers, Book, Circuit, Crew, Holder};
 
 use crate::programs;
 use crate::reference::books::NaiveBook;
+use crate::reference::stored::load;
 
 /// A call: its kind and five numbers, of which most kinds read only the first ones.
 pub type Call = [u16; 6];
@@ -28,14 +29,20 @@ pub fn answer(book: &mut NaiveBook, [kind, p, q, r, s, t]: Call) -> Answer {
         GRANT => book.grant([p, q, r, s, t]).map(|serial| vec![serial]),
         REMOVE => book.remove(p).map(|()| vec![]),
         CONFIRM => book.confirm(p).map(|()| vec![]),
-        SHOW => book
-            .show(p, q)
-            .map(|c| vec![c.a, c.b, c.way as u16, c.colour]),
-        _ => book.holder(p, q, r).map(|holder| match holder {
-            Holder::Free => vec![0, 0],
-            Holder::Held => vec![1, 0],
-            Holder::HeldBy(serial) => vec![2, serial],
-        }),
+        SHOW => book.show(p, q).map(shown),
+        _ => book.holder(p, q, r).map(held),
+    }
+}
+
+fn shown(c: Circuit) -> Vec<u16> {
+    vec![c.a, c.b, c.way as u16, c.colour]
+}
+
+fn held(holder: Holder) -> Vec<u16> {
+    match holder {
+        Holder::Free => vec![0, 0],
+        Holder::Held => vec![1, 0],
+        Holder::HeldBy(serial) => vec![2, serial],
     }
 }
 
@@ -49,23 +56,68 @@ fn printed(answer: &Answer) -> String {
     words.join(" ")
 }
 
-/// What the program prints of calls on a book of n nodes and w colours: a line for each, and the counts behind the last.
+/// The counts as they are printed behind the last call.
+fn counts(book: &NaiveBook) -> String {
+    format!("live {} grants {}", book.live.len(), book.grants)
+}
+
+/// The answer of the C interface to a call on a book in a buffer, and the length of its form afterwards.
+fn answer_in(buffer: &mut [u8], length: usize, call: Call) -> (Answer, usize) {
+    let [kind, p, q, r, s, t] = call;
+    let changed = match kind {
+        GRANT => buffers::grant(buffer, length, [p, q], r, s, Crew(t)).map(|(o, l)| (vec![o], l)),
+        REMOVE => buffers::remove(buffer, length, p).map(|l| (vec![], l)),
+        CONFIRM => buffers::confirm(buffer, length, p).map(|l| (vec![], l)),
+        SHOW => buffers::show(&buffer[..length], p, Crew(q)).map(|c| (shown(c), length)),
+        _ => buffers::holder(&buffer[..length], p, q, Crew(r)).map(|h| (held(h), length)),
+    };
+    match changed {
+        Ok((values, after)) => (Ok(values), after),
+        Err(refusal) => (Err(refusal.number), length),
+    }
+}
+
+/// What the C interface says of calls on a book of n nodes and w colours, in the program's lines.
+fn played_in_buffer(n: u16, w: u16, calls: &[Call]) -> Vec<String> {
+    let mut buffer = [0; Book::MAX_LENGTH];
+    let mut length = buffers::open(n, w, &mut buffer).unwrap();
+    let mut lines = Vec::new();
+    for &call in calls {
+        let (answer, after) = answer_in(&mut buffer, length, call);
+        lines.push(printed(&answer));
+        length = after;
+    }
+    lines.push(counts(&load(&buffer[..length], 0).unwrap()));
+    lines
+}
+
+/// What the program prints of calls on a book of n nodes and w colours: a line for each, and the counts behind the last. The C interface
+/// says the same, if there is such a book.
 pub fn played(n: u16, w: u16, calls: &[Call]) -> Vec<String> {
     assert!(calls.len() <= MOST, "the program reads all calls");
     let words = [n, w].into_iter().chain(calls.iter().flatten().copied());
     let input: Vec<u8> = words.flat_map(u16::to_le_bytes).collect();
     let output = programs::output(&["calls_run"], &input, 4096);
     assert!(output.ends_with('\n'), "every line is ended");
-    output.lines().map(str::to_string).collect()
+    let lines: Vec<String> = output.lines().map(str::to_string).collect();
+    if NaiveBook::open(n, w).is_ok() {
+        let others = played_in_buffer(n, w, calls);
+        same_lines(calls, &lines, &others, "in memory and in a buffer");
+    }
+    lines
+}
+
+fn same_lines(calls: &[Call], lines: &[String], want: &[String], what: &str) {
+    for (i, (got, want)) in lines.iter().zip(want).enumerate() {
+        assert_eq!(got, want, "{what}, call {i}: {:?}", calls.get(i));
+    }
+    assert_eq!(lines.len(), want.len(), "{what}: a line for each call");
 }
 
 /// Has the calls played; each answer, and the counts behind the last, must be the line that is wanted.
 pub fn play(n: u16, w: u16, calls: &[Call], want: &[String]) {
-    let lines = played(n, w, calls);
-    for (i, (got, want)) in lines.iter().zip(want).enumerate() {
-        assert_eq!(got, want, "n {n} w {w}, call {i}: {:?}", calls.get(i));
-    }
-    assert_eq!(lines.len(), want.len(), "n {n} w {w}: a line for each call");
+    let what = format!("n {n} w {w}");
+    same_lines(calls, &played(n, w, calls), want, &what);
 }
 
 /// Has the calls played, each answered by the line beside it. A call's numbers that are left out are zeros.
@@ -100,8 +152,7 @@ impl History {
 
     /// Plays the calls for real; n and w are those that the program is told.
     pub fn agree(mut self, n: u16, w: u16) {
-        let (live, grants) = (self.book.live.len(), self.book.grants);
-        self.lines.push(format!("live {live} grants {grants}"));
+        self.lines.push(counts(&self.book));
         play(n, w, &self.calls, &self.lines);
     }
 }

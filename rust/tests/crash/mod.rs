@@ -4,6 +4,7 @@ use std::sync::OnceLock;
 
 use crate::desk::{run, Folder, NaiveDesk, Run};
 use crate::reference::books::{NaiveBook, DESK};
+use crate::reference::old::encode_old;
 
 /// The library that stands between the program and its calls.
 fn shim() -> &'static str {
@@ -59,17 +60,28 @@ impl Story {
     }
 }
 
-/// A desk with a book of so many circuits of one link each.
-pub fn desk_of(live: u16) -> NaiveDesk {
+/// A book of so many circuits of one link each.
+fn book_of(live: u16) -> NaiveBook {
     let mut book = NaiveBook::open(64, 16).unwrap();
     for i in 0..live {
         book.grant([i % 63, i % 63 + 1, 0, i / 63, DESK]).unwrap();
     }
-    NaiveDesk(Some(book))
+    book
 }
 
-/// A book that is opened; forms that get longer and keep their length; refusals and questions between; the longest form.
-pub fn stories() -> [Story; 4] {
+/// A desk with a book of so many circuits.
+pub fn desk_of(live: u16) -> NaiveDesk {
+    NaiveDesk::of(&book_of(live))
+}
+
+/// The same with a file in the old form.
+pub fn old_desk_of(live: u16) -> NaiveDesk {
+    NaiveDesk(Some(encode_old(&book_of(live))))
+}
+
+/// A book that is opened; forms that get longer, keep their length and get shorter; refusals and questions between; the longest form; an
+/// old form that becomes a new one.
+pub fn stories() -> [Story; 5] {
     [
         Story::new(
             NaiveDesk::default(),
@@ -82,14 +94,14 @@ pub fn stories() -> [Story; 4] {
                 "open 3 1",
                 "grant 3 9 0 2 7",
                 "show 1 7",
-                "grant 3 9 0 2 0",
+                "grant 3 9 0 3 0",
             ],
         ),
         Story::new(
-            desk_of(63),
+            desk_of(42),
             &[
                 "grant 0 9 0 9",
-                "show 64",
+                "show 43",
                 "remove 7",
                 "confirm 7",
                 "grant 9 18 0 9",
@@ -97,7 +109,11 @@ pub fn stories() -> [Story; 4] {
         ),
         Story::new(
             desk_of(510),
-            &["grant 0 1 0 15", "grant 1 2 0 15", "grant 2 3 0 15"],
+            &["grant 0 1 0 15", "grant 1 2 0 15 999", "grant 2 3 0 15"],
+        ),
+        Story::new(
+            old_desk_of(63),
+            &["revision", "confirm 7", "remove 7", "revision"],
         ),
     ]
 }
@@ -108,7 +124,7 @@ pub fn found_after(story: &Story, folder: &Folder, output: &str, told: &str) -> 
     let want = story.desk.clone().answers(&story.input());
     let complete = output.is_empty() || output.ends_with('\n');
     assert!(want.starts_with(output) && complete, "{told}: {output}");
-    let found = NaiveDesk::of(&folder.bytes("book"));
+    let found = NaiveDesk(folder.bytes("book"));
     let next = (answered + 1).min(story.lines.len());
     match found {
         desk if desk == story.after(answered) => answered,

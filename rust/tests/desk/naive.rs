@@ -4,10 +4,11 @@ use std::collections::BTreeMap;
 use ring_planner::{Circuit, Holder, Refusal, Way};
 
 use crate::reference::books::{NaiveBook, Previewed, DESK};
-use crate::reference::stored::{change, encode, load};
+use crate::reference::old::load_old;
+use crate::reference::stored::{encode, load};
 
 /// The commands, with how many numbers each has; `preview` has those of a grant for each line.
-const COMMANDS: [(&str, usize); 10] = [
+const COMMANDS: [(&str, usize); 11] = [
     ("open", 2),
     ("grant", 4),
     ("remove", 1),
@@ -17,6 +18,7 @@ const COMMANDS: [(&str, usize); 10] = [
     ("count", 0),
     ("list", 0),
     ("pending", 0),
+    ("revision", 0),
     ("help", 0),
 ];
 
@@ -33,6 +35,7 @@ confirm SERIAL               confirms that a removed order's patch is pulled, an
 show SERIAL [CREW]           the circuit of an order that CREW may read: its ends, P (plain) or S (seam), its colour
 holder LINK COLOUR [CREW]    the order that has the colour on the link, if CREW may read it
 count                        how many orders are live, and how many were granted so far
+revision                     the book's revision, which rises by one with each grant and each removal
 list                         every live order with its circuit
 pending                      every removed order whose pull is not yet confirmed, with its circuit
 help                         these lines; CREW is 0 to 999, and 0, the desk, where it is left out
@@ -51,9 +54,9 @@ If no session is at work, remove {name}.new and type the command again\n"
     )
 }
 
-/// A desk as the rules have it: the naive book in the file, or no file.
-#[derive(Clone, Default, PartialEq)]
-pub struct NaiveDesk(pub Option<NaiveBook>);
+/// A desk as the rules have it: what its file holds, or no file. Nothing else is kept between two lines.
+#[derive(Clone, Debug, Default, PartialEq)]
+pub struct NaiveDesk(pub Option<Vec<u8>>);
 
 /// The numbers of a line's words, if each has 1 to 5 digits and is at most 65,535.
 fn numbers(words: &[&str]) -> Option<Vec<u16>> {
@@ -115,19 +118,25 @@ pub fn not_understood(line: &str) -> String {
     format!("error not understood: {front} (help lists the commands)\n")
 }
 
+/// The book of a file: in the new form, and if it is none, in the old one. What is neither is refused as the new form is.
+fn book_in(bytes: &[u8]) -> Result<NaiveBook, u16> {
+    load(bytes, 0).or_else(|number| load_old(bytes).map_err(|_| number))
+}
+
 impl NaiveDesk {
-    /// The desk of a file's bytes, which hold a book.
-    pub fn of(bytes: &Option<Vec<u8>>) -> NaiveDesk {
-        NaiveDesk(
-            bytes
-                .as_ref()
-                .map(|b| load(b).expect("the file is whole and holds a book")),
-        )
+    /// The desk whose file holds a book.
+    pub fn of(book: &NaiveBook) -> NaiveDesk {
+        NaiveDesk(Some(encode(book)))
     }
 
     /// The bytes of the file.
     pub fn bytes(&self) -> Option<Vec<u8>> {
-        self.0.as_ref().map(encode)
+        self.0.clone()
+    }
+
+    /// The book in the file, if there is one.
+    pub fn book(&self) -> Option<NaiveBook> {
+        book_in(self.0.as_ref()?).ok()
     }
 
     /// The answer to an input of many lines.
@@ -153,23 +162,34 @@ impl NaiveDesk {
         let Some(numbers) = numbers_of(first, &words[1..]) else {
             return not_understood(text);
         };
-        match (first, &mut self.0) {
+        match (first, self.0.as_deref().map(book_in)) {
             ("help", _) => HELP.to_string(),
+            (_, Some(Err(number))) => refused(number),
             ("open", None) => self.open(numbers[0], numbers[1]),
             ("open", Some(_)) => BOOK_THERE.to_string(),
             (_, None) => NO_BOOK.to_string(),
-            (_, Some(book)) => answer_on(book, first, &numbers).unwrap_or_else(refused),
+            (_, Some(Ok(book))) => self.answer_by(book, first, &numbers),
         }
     }
 
     fn open(&mut self, n: u16, w: u16) -> String {
         match NaiveBook::open(n, w) {
             Ok(book) => {
-                self.0 = Some(book);
+                *self = NaiveDesk::of(&book);
                 format!("opened {n} {w}\n")
             }
             Err(number) => refused(number),
         }
+    }
+
+    /// The answer to a command on the book in the file; a change writes the new form, whatever the form was.
+    fn answer_by(&mut self, book: NaiveBook, command: &str, numbers: &[u16]) -> String {
+        let mut changed = book.clone();
+        let answer = answer_on(&mut changed, command, numbers);
+        if changed != book {
+            *self = NaiveDesk::of(&changed);
+        }
+        answer.unwrap_or_else(refused)
     }
 }
 
@@ -204,7 +224,7 @@ fn previewed((serials, stop): Previewed) -> String {
 fn answer_on(book: &mut NaiveBook, command: &str, numbers: &[u16]) -> Result<String, u16> {
     Ok(match (command, numbers) {
         ("grant", &[x, y, way, colour, crew]) => {
-            let serial = change(book, |book| book.grant([x, y, way, colour, crew]))?;
+            let serial = book.grant([x, y, way, colour, crew])?;
             format!("granted {serial}\n")
         }
         ("preview", lines) => previewed(book.preview(lines.as_chunks().0)?),
@@ -214,16 +234,17 @@ fn answer_on(book: &mut NaiveBook, command: &str, numbers: &[u16]) -> Result<Str
             Holder::HeldBy(serial) => format!("held {serial}\n"),
         },
         ("remove", &[serial]) => {
-            change(book, |book| book.remove(serial))?;
+            book.remove(serial)?;
             format!("removed {serial}\n")
         }
         ("confirm", &[serial]) => {
-            change(book, |book| book.confirm(serial))?;
+            book.confirm(serial)?;
             format!("confirmed {serial}\n")
         }
         ("show", &[serial, crew]) => format!("circuit {}", shown(&book.show(serial, crew)?)),
         ("list", []) => orders(&book.live),
         ("pending", []) => orders(&book.pending),
+        ("revision", []) => format!("revision {}\n", book.revision()),
         _ => format!("live {} grants {}\n", book.live.len(), book.grants),
     })
 }

@@ -1,6 +1,8 @@
 //! Lines as they are typed at the desk, and lines of random sessions.
 use crate::reference::books::{Asked, DESK};
-use crate::reference::draws::{draw, draw_bundle, draw_crew, draw_grant, draw_serial};
+use crate::reference::draws::{
+    draw, draw_bundle, draw_crew, draw_grant, draw_pending, draw_serial,
+};
 use crate::reference::Random;
 
 use super::NaiveDesk;
@@ -30,16 +32,20 @@ fn draw_behind(random: &mut Random) -> String {
 
 /// A line of a random session.
 pub fn draw_line(random: &mut Random, desk: &NaiveDesk) -> String {
-    let Some(book) = &desk.0 else {
+    let Some(book) = &desk.book() else {
         return format!("open {} {}\n", draw(random, 256), draw(random, 128));
     };
     let serial = match random.below(4) {
         0 => draw(random, book.grants.saturating_add(2)),
         _ => draw_serial(random, book),
     };
+    let pending = draw_pending(random, book);
     let line = match random.below(16) {
         0 => format!("open {} {}", draw(random, 256), draw(random, 128)),
-        1 => ["count", "list", "pending", "help", ""][random.below(5) as usize].to_string(),
+        1 => {
+            let commands = ["count", "list", "pending", "revision", "help", ""];
+            commands[random.below(6) as usize].to_string()
+        }
         2 => format!("show  {serial} {}", draw_behind(random)),
         3 => {
             let (link, colour) = (draw(random, book.n), draw(random, book.w));
@@ -49,8 +55,9 @@ pub fn draw_line(random: &mut Random, desk: &NaiveDesk) -> String {
             &draw_bundle(random, book.n, book.w),
             [",", ", "][random.below(2) as usize],
         ),
-        5 => format!("remove {serial}"),
-        6 => format!("confirm {serial}"),
+        5 | 6 => format!("remove {serial}"),
+        7 => format!("confirm {pending}"),
+        8 => format!("confirm {serial}"),
         _ => {
             let asked = draw_grant(random, book.n, book.w);
             format!("grant {}", typed_grant(asked, random.below(2) == 0))

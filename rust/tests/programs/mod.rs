@@ -13,11 +13,12 @@ pub fn program(words: &[&str]) -> Command {
     command
 }
 
-/// What a program prints for an input that comes in pieces of the given size.
-pub fn output(words: &[&str], input: &[u8], piece: usize) -> String {
+/// What a program writes, and what it says on standard error, for an input that comes in pieces of the given size.
+pub fn outputs(words: &[&str], input: &[u8], piece: usize) -> (Vec<u8>, String) {
     let mut child = program(words)
         .stdin(Stdio::piped())
         .stdout(Stdio::piped())
+        .stderr(Stdio::piped())
         .spawn()
         .expect("the program is built");
     let mut stdin = child.stdin.take().unwrap();
@@ -29,8 +30,15 @@ pub fn output(words: &[&str], input: &[u8], piece: usize) -> String {
     }
     drop(stdin);
     let ended = child.wait_with_output().unwrap();
-    assert!(ended.status.success() && ended.stderr.is_empty());
-    String::from_utf8(ended.stdout).unwrap()
+    assert!(ended.status.success());
+    (ended.stdout, String::from_utf8(ended.stderr).unwrap())
+}
+
+/// What a program prints for an input that comes in pieces of the given size.
+pub fn output(words: &[&str], input: &[u8], piece: usize) -> String {
+    let (printed, errors) = outputs(words, input, piece);
+    assert_eq!(errors, "");
+    String::from_utf8(printed).unwrap()
 }
 
 /// What a program prints and what it says on standard error, where reading a directory as the input fails.

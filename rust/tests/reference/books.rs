@@ -58,7 +58,7 @@ impl NaiveBook {
     }
 
     /// The records of both states.
-    fn records(&self) -> impl Iterator<Item = (&u16, &Circuit)> {
+    pub fn records(&self) -> impl Iterator<Item = (&u16, &Circuit)> {
         self.live.iter().chain(&self.pending)
     }
 
@@ -67,9 +67,14 @@ impl NaiveBook {
         self.crews.get(&serial).copied().unwrap_or(DESK)
     }
 
-    /// Whether the stored form has room for every record: none is pending, and all are the desk's.
-    pub fn can_be_stored(&self) -> bool {
+    /// Whether the old form has room for every record: none is pending, and all are the desk's.
+    pub fn has_old_form(&self) -> bool {
         self.pending.is_empty() && self.crews.is_empty()
+    }
+
+    /// Twice the grants so far less the live orders.
+    pub fn revision(&self) -> u32 {
+        2 * self.grants as u32 - self.live.len() as u32
     }
 
     /// The circuit that is asked for, as far as the ring says.

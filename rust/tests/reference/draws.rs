@@ -26,15 +26,7 @@ pub fn draw_crew(random: &mut Random) -> u16 {
     }
 }
 
-/// The desk, and now and then any crew: what is granted to another than the desk cannot be stored.
-pub fn draw_desk(random: &mut Random) -> u16 {
-    match random.below(8) {
-        0 => draw_crew(random),
-        _ => DESK,
-    }
-}
-
-/// A grant: ways of few links for the most part, so that many fit, and the desk's for the most part.
+/// A grant: ways of few links for the most part, so that many fit.
 pub fn draw_grant(random: &mut Random, n: u16, w: u16) -> Asked {
     let x = draw(random, n);
     let step = match random.below(8) {
@@ -52,7 +44,7 @@ pub fn draw_grant(random: &mut Random, n: u16, w: u16) -> Asked {
         _ => around as u16,
     };
     let [x, y] = if random.below(2) == 0 { [x, y] } else { [y, x] };
-    [x, y, way, draw(random, w), draw_desk(random)]
+    [x, y, way, draw(random, w), draw_crew(random)]
 }
 
 /// The lines of a bundle, 0 to 17 of them.
@@ -80,4 +72,35 @@ fn draw_order(random: &mut Random, grants: u16, orders: &BTreeMap<u16, Circuit>)
             orders.keys().nth(place).copied().unwrap_or(1)
         }
     }
+}
+
+/// A book with so many records, live and pending, of any crews, and with orders in its past that were confirmed.
+pub fn draw_book(random: &mut Random, n: u16, w: u16, records: usize) -> NaiveBook {
+    filled(random, n, w, records, true)
+}
+
+/// A book with so many records, all live and the desk's, and with orders in its past that were confirmed.
+pub fn draw_old_book(random: &mut Random, n: u16, w: u16, live: usize) -> NaiveBook {
+    filled(random, n, w, live, false)
+}
+
+fn filled(random: &mut Random, n: u16, w: u16, records: usize, marked: bool) -> NaiveBook {
+    let mut book = NaiveBook::open(n, w).unwrap();
+    while book.live.len() + book.pending.len() < records {
+        let [x, y, way, colour, crew] = draw_grant(random, n, w);
+        let crew = if marked { crew } else { DESK };
+        match (book.grant([x, y, way, colour, crew]), random.below(16)) {
+            (Ok(serial), 0..=2) => book.lapse(serial).unwrap(),
+            (Ok(serial), 3..=6) if marked => book.remove(serial).unwrap(),
+            // Now and then an order goes, lest a long way be in that of all others.
+            (Err(11), 0) => {
+                let place = random.below(book.records().count() as u64) as usize;
+                let serial = book.records().nth(place).map_or(0, |(&serial, _)| serial);
+                let _ = book.remove(serial);
+                book.confirm(serial).unwrap();
+            }
+            _ => {}
+        }
+    }
+    book
 }

@@ -1,10 +1,12 @@
 //! A second planner, checker and book by other algorithms, for comparison. Used by the other tests as a module.
 #![allow(dead_code)]
 
+pub mod blocks;
 pub mod books;
 pub mod draws;
 pub mod lists;
 pub mod matchings;
+pub mod old;
 pub mod pairs;
 pub mod stored;
 pub mod tallies;

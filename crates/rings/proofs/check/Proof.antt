@@ -28,11 +28,8 @@ print-check-requires c κs = search needs
 enum-told : tie.Need-enum-told
 enum-told c = search needs
 
-slice-aggregate-write-all : tie.Need-slice-aggregate-write-all
-slice-aggregate-write-all c = search needs
-
-write-all-requires : tie.Need-write-all-requires
-write-all-requires c κs = search needs
+say-unread-requires : tie.Need-say-unread-requires
+say-unread-requires c κs = search needs
 
 returns : tie.Need-returns
 returns c = search needs
@@ -51,7 +48,6 @@ check-spec =
     slice-aggregate-print-check
     print-check-requires
     enum-told
-    slice-aggregate-write-all
-    write-all-requires
+    say-unread-requires
     returns
     returns-2)

@@ -75,11 +75,17 @@ enum-told-5 c = search needs
 only-requires-7 : tie.Need-only-requires-7
 only-requires-7 c κs = search needs
 
-enum-known-command-6 : tie.Need-enum-known-command-6
-enum-known-command-6 c = search needs
+enum-told-6 : tie.Need-enum-told-6
+enum-told-6 c = search needs
 
 only-requires-8 : tie.Need-only-requires-8
 only-requires-8 c κs = search needs
+
+enum-known-command-6 : tie.Need-enum-known-command-6
+enum-known-command-6 c = search needs
+
+only-requires-9 : tie.Need-only-requires-9
+only-requires-9 c κs = search needs
 
 returns : tie.Need-returns
 returns c = λ v. c .only .ensures ∙ ap (answeredBook (c .before .before .before .args .book)) (sym (c .before .enum-told .given .1))
@@ -139,10 +145,13 @@ returns-10 : tie.Need-returns-10
 returns-10 c = λ v. c .only7 .ensures ∙ ap (answeredBook (c .before .before .before .args .book)) (sym (c .before .enum-told5 .given .1))
 
 returns-11 : tie.Need-returns-11
-returns-11 c =
+returns-11 c = λ v. c .only8 .ensures ∙ ap (answeredBook (c .before .before .before .args .book)) (sym (c .before .enum-told6 .given .1))
+
+returns-12 : tie.Need-returns-12
+returns-12 c =
     let command6 = c .before .before in
     let start = command6 .before .before in
-    λ v. c .only8 .ensures ∙ ap (answeredBook (start .args .book)) (sym (command6 .command6 .given .1))
+    λ v. c .only9 .ensures ∙ ap (answeredBook (start .args .book)) (sym (command6 .command6 .given .1))
 
 pub answer-book-spec : {M : Type 1} → statement M
 answer-book-spec =
@@ -171,8 +180,10 @@ answer-book-spec =
     only-requires-6
     enum-told-5
     only-requires-7
-    enum-known-command-6
+    enum-told-6
     only-requires-8
+    enum-known-command-6
+    only-requires-9
     returns
     returns-2
     returns-3
@@ -183,4 +194,5 @@ answer-book-spec =
     returns-8
     returns-9
     returns-10
-    returns-11)
+    returns-11
+    returns-12)

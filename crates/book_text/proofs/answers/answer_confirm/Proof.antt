@@ -10,8 +10,8 @@ confirm-requires c κs = search needs
 enum-told : tie.Need-enum-told
 enum-told c = search needs
 
-storing-requires : tie.Need-storing-requires
-storing-requires c κs = search needs
+replacing-requires : tie.Need-replacing-requires
+replacing-requires c κs = search needs
 
 enum-known-answer : tie.Need-enum-known-answer
 enum-known-answer c = search needs
@@ -25,7 +25,7 @@ returns c =
     let confirm = told .before .before .before in
     let start = confirm .before in
     let s = start .args in
-    c .storing .ensures ∙ confirm-told (s .book) (s .serial) (confirm .confirm .ensures) (told .enum-told .given .1)
+    c .replacing .ensures ∙ confirm-told (s .book) (s .serial) (confirm .confirm .ensures) (told .enum-told .given .1)
 
 returns-2 : tie.Need-returns-2
 returns-2 c =
@@ -41,7 +41,7 @@ answer-confirm-spec =
     (tie.spec
     confirm-requires
     enum-told
-    storing-requires
+    replacing-requires
     enum-known-answer
     only-requires
     returns

@@ -10,8 +10,8 @@ grant-requires c κs = search needs
 enum-known-answer : tie.Need-enum-known-answer
 enum-known-answer c = search needs
 
-storing-requires : tie.Need-storing-requires
-storing-requires c κs = search needs
+replacing-requires : tie.Need-replacing-requires
+replacing-requires c κs = search needs
 
 enum-known-answer-2 : tie.Need-enum-known-answer-2
 enum-known-answer-2 c = search needs
@@ -25,7 +25,7 @@ returns c =
     let grant = answer .before .before .before in
     let start = grant .before in
     let s = start .args in
-    λ v. c .storing .ensures
+    λ v. c .replacing .ensures
     ∙ grant-told (s .book) (s .x) (s .y) (s .way) (s .colour) (s .crew) (grant .grant .ensures .valid v) (answer .answer .given .1)
 
 returns-2 : tie.Need-returns-2
@@ -43,7 +43,7 @@ answer-grant-spec =
     (tie.spec
     grant-requires
     enum-known-answer
-    storing-requires
+    replacing-requires
     enum-known-answer-2
     only-requires
     returns

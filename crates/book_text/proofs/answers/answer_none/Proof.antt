@@ -64,11 +64,17 @@ enum-told-9 c = search needs
 only-requires-9 : tie.Need-only-requires-9
 only-requires-9 c κs = search needs
 
-enum-known-command-2 : tie.Need-enum-known-command-2
-enum-known-command-2 c = search needs
+enum-told-10 : tie.Need-enum-told-10
+enum-told-10 c = search needs
 
 only-requires-10 : tie.Need-only-requires-10
 only-requires-10 c κs = search needs
+
+enum-known-command-2 : tie.Need-enum-known-command-2
+enum-known-command-2 c = search needs
+
+only-requires-11 : tie.Need-only-requires-11
+only-requires-11 c κs = search needs
 
 returns : tie.Need-returns
 returns c =
@@ -104,10 +110,13 @@ returns-10 : tie.Need-returns-10
 returns-10 c = c .only9 .ensures ∙ ap (answeredNone (c .before .before .before .args .book)) (sym (c .before .enum-told9 .given .1))
 
 returns-11 : tie.Need-returns-11
-returns-11 c =
+returns-11 c = c .only10 .ensures ∙ ap (answeredNone (c .before .before .before .args .book)) (sym (c .before .enum-told10 .given .1))
+
+returns-12 : tie.Need-returns-12
+returns-12 c =
     let command2 = c .before .before in
     let start = command2 .before .before in
-    c .only10 .ensures ∙ ap (answeredNone (start .args .book)) (sym (command2 .command2 .given .1))
+    c .only11 .ensures ∙ ap (answeredNone (start .args .book)) (sym (command2 .command2 .given .1))
 
 pub answer-none-spec : {M : Type 1} → statement M
 answer-none-spec =
@@ -133,8 +142,10 @@ answer-none-spec =
     only-requires-8
     enum-told-9
     only-requires-9
-    enum-known-command-2
+    enum-told-10
     only-requires-10
+    enum-known-command-2
+    only-requires-11
     returns
     returns-2
     returns-3
@@ -145,4 +156,5 @@ answer-none-spec =
     returns-8
     returns-9
     returns-10
-    returns-11)
+    returns-11
+    returns-12)

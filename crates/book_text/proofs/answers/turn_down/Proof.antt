@@ -64,11 +64,17 @@ enum-told-10 c = search needs
 only-requires-10 : tie.Need-only-requires-10
 only-requires-10 c κs = search needs
 
-enum-known-command : tie.Need-enum-known-command
-enum-known-command c = search needs
+enum-told-11 : tie.Need-enum-told-11
+enum-told-11 c = search needs
 
 only-requires-11 : tie.Need-only-requires-11
 only-requires-11 c κs = search needs
+
+enum-known-command : tie.Need-enum-known-command
+enum-known-command c = search needs
+
+only-requires-12 : tie.Need-only-requires-12
+only-requires-12 c κs = search needs
 
 returns : tie.Need-returns
 returns c =
@@ -132,9 +138,15 @@ returns-10 c =
 
 returns-11 : tie.Need-returns-11
 returns-11 c =
+    let told11 = c .before in
+    let start = told11 .before .before in
+    c .only11 .ensures ∙ ap (turnedDown (start .args .book) (start .args .reply)) (sym (told11 .enum-told11 .given .1))
+
+returns-12 : tie.Need-returns-12
+returns-12 c =
     let command = c .before .before in
     let start = command .before .before in
-    c .only11 .ensures ∙ ap (turnedDown (start .args .book) (start .args .reply)) (sym (command .command .given .1))
+    c .only12 .ensures ∙ ap (turnedDown (start .args .book) (start .args .reply)) (sym (command .command .given .1))
 
 pub turn-down-spec : {M : Type 1} → statement M
 turn-down-spec =
@@ -160,8 +172,10 @@ turn-down-spec =
     only-requires-9
     enum-told-10
     only-requires-10
-    enum-known-command
+    enum-told-11
     only-requires-11
+    enum-known-command
+    only-requires-12
     returns
     returns-2
     returns-3
@@ -172,4 +186,5 @@ turn-down-spec =
     returns-8
     returns-9
     returns-10
-    returns-11)
+    returns-11
+    returns-12)

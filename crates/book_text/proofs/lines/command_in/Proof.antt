@@ -139,13 +139,16 @@ returns-6 c =
     )
     refl
 
-numbers-in-requires : tie.Need-numbers-in-requires
-numbers-in-requires c κs = search needs
+slice-aggregate-same-bytes-7 : tie.Need-slice-aggregate-same-bytes-7
+slice-aggregate-same-bytes-7 c = search needs
+
+same-bytes-requires-7 : tie.Need-same-bytes-requires-7
+same-bytes-requires-7 c κs = search needs
 
 returns-7 : tie.Need-returns-7
 unfolding commandIn
 returns-7 c =
-    let test6 = c .before in
+    let test6 = c .before .before .before in
     let test5 = test6 .before .before .before in
     let test4 = test5 .before .before .before in
     let test3 = test4 .before .before .before in
@@ -164,6 +167,39 @@ returns-7 c =
       test5 .if5 .left,
       ← test6 .before .same-bytes6 .ensures,
       test6 .if6 .left,
+      ← c .before .same-bytes7 .ensures,
+      c .if7 .taken,
+    )
+    refl
+
+numbers-in-requires : tie.Need-numbers-in-requires
+numbers-in-requires c κs = search needs
+
+returns-8 : tie.Need-returns-8
+unfolding commandIn
+returns-8 c =
+    let test7 = c .before in
+    let test6 = test7 .before .before .before in
+    let test5 = test6 .before .before .before in
+    let test4 = test5 .before .before .before in
+    let test3 = test4 .before .before .before in
+    let test2 = test3 .before .before .before in
+    let test1 = test2 .before .before .before in
+    rw (
+      ← test1 .before .same-bytes .ensures,
+      test1 .if1 .left,
+      ← test2 .before .same-bytes2 .ensures,
+      test2 .if2 .left,
+      ← test3 .before .same-bytes3 .ensures,
+      test3 .if3 .left,
+      ← test4 .before .same-bytes4 .ensures,
+      test4 .if4 .left,
+      ← test5 .before .same-bytes5 .ensures,
+      test5 .if5 .left,
+      ← test6 .before .same-bytes6 .ensures,
+      test6 .if6 .left,
+      ← test7 .before .same-bytes7 .ensures,
+      test7 .if7 .left,
     )
     (c .numbers-in .ensures)
 
@@ -189,5 +225,8 @@ command-in-spec =
     slice-aggregate-same-bytes-6
     same-bytes-requires-6
     returns-6
+    slice-aggregate-same-bytes-7
+    same-bytes-requires-7
+    returns-7
     numbers-in-requires
-    returns-7)
+    returns-8)

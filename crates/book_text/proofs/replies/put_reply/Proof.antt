@@ -100,11 +100,17 @@ put-two-requires-2 c κs = search needs
 enum-told-4 : tie.Need-enum-told-4
 enum-told-4 c = search needs
 
-put-orders-requires : tie.Need-put-orders-requires
-put-orders-requires c κs = search needs
+put-revision-requires : tie.Need-put-revision-requires
+put-revision-requires c κs = search needs
 
 enum-told-5 : tie.Need-enum-told-5
 enum-told-5 c = search needs
+
+put-orders-requires : tie.Need-put-orders-requires
+put-orders-requires c κs = search needs
+
+enum-told-6 : tie.Need-enum-told-6
+enum-told-6 c = search needs
 
 put-orders-requires-2 : tie.Need-put-orders-requires-2
 put-orders-requires-2 c κs = search needs
@@ -115,8 +121,8 @@ enum-known-reply-8 c = search needs
 put-refused-requires : tie.Need-put-refused-requires
 put-refused-requires c κs = search needs
 
-enum-told-6 : tie.Need-enum-told-6
-enum-told-6 c = search needs
+enum-told-7 : tie.Need-enum-told-7
+enum-told-7 c = search needs
 
 slice-aggregate-put-3 : tie.Need-slice-aggregate-put-3
 slice-aggregate-put-3 c = search needs
@@ -124,8 +130,8 @@ slice-aggregate-put-3 c = search needs
 put-requires-3 : tie.Need-put-requires-3
 put-requires-3 c κs = search needs
 
-enum-told-7 : tie.Need-enum-told-7
-enum-told-7 c = search needs
+enum-told-8 : tie.Need-enum-told-8
+enum-told-8 c = search needs
 
 slice-aggregate-put-4 : tie.Need-slice-aggregate-put-4
 slice-aggregate-put-4 c = search needs
@@ -203,39 +209,45 @@ same-length-11 : tie.Need-same-length-11
 same-length-11 c = search needs
 
 returns-11 : tie.Need-returns-11
-unfolding ordersText
-returns-11 c = rw (c .before .before .before .before .enum-told4 .given .1) (c .before .before .put-orders .ensures)
+returns-11 c = rw (c .before .before .before .before .enum-told4 .given .1) (c .before .before .put-revision .ensures)
 
 same-length-12 : tie.Need-same-length-12
 same-length-12 c = search needs
 
 returns-12 : tie.Need-returns-12
-unfolding pendingText
-returns-12 c = rw (c .before .before .before .before .enum-told5 .given .1) (c .before .before .put-orders2 .ensures)
+unfolding ordersText
+returns-12 c = rw (c .before .before .before .before .enum-told5 .given .1) (c .before .before .put-orders .ensures)
 
 same-length-13 : tie.Need-same-length-13
 same-length-13 c = search needs
 
 returns-13 : tie.Need-returns-13
-returns-13 c = rw (c .before .before .before .before .before .reply8 .given .1) (c .before .before .put-refused .ensures)
+unfolding pendingText
+returns-13 c = rw (c .before .before .before .before .enum-told6 .given .1) (c .before .before .put-orders2 .ensures)
 
 same-length-14 : tie.Need-same-length-14
 same-length-14 c = search needs
 
 returns-14 : tie.Need-returns-14
-returns-14 c = rw (c .before .before .before .before .before .enum-told6 .given .1) (c .before .before .put3 .ensures)
+returns-14 c = rw (c .before .before .before .before .before .reply8 .given .1) (c .before .before .put-refused .ensures)
 
 same-length-15 : tie.Need-same-length-15
 same-length-15 c = search needs
 
 returns-15 : tie.Need-returns-15
-returns-15 c = rw (c .before .before .before .before .before .enum-told7 .given .1) (c .before .before .put4 .ensures)
+returns-15 c = rw (c .before .before .before .before .before .enum-told7 .given .1) (c .before .before .put3 .ensures)
 
 same-length-16 : tie.Need-same-length-16
 same-length-16 c = search needs
 
 returns-16 : tie.Need-returns-16
-returns-16 c = rw (c .before .before .before .before .before .reply9 .given .1) (c .before .before .put-aside .ensures)
+returns-16 c = rw (c .before .before .before .before .before .enum-told8 .given .1) (c .before .before .put4 .ensures)
+
+same-length-17 : tie.Need-same-length-17
+same-length-17 c = search needs
+
+returns-17 : tie.Need-returns-17
+returns-17 c = rw (c .before .before .before .before .before .reply9 .given .1) (c .before .before .put-aside .ensures)
 
 pub put-reply-spec : {M : Type 1} → statement M
 put-reply-spec =
@@ -273,15 +285,17 @@ put-reply-spec =
     slice-aggregate-put-two-4
     put-two-requires-2
     enum-told-4
-    put-orders-requires
+    put-revision-requires
     enum-told-5
+    put-orders-requires
+    enum-told-6
     put-orders-requires-2
     enum-known-reply-8
     put-refused-requires
-    enum-told-6
+    enum-told-7
     slice-aggregate-put-3
     put-requires-3
-    enum-told-7
+    enum-told-8
     slice-aggregate-put-4
     put-requires-4
     enum-known-reply-9
@@ -317,4 +331,6 @@ put-reply-spec =
     same-length-15
     returns-15
     same-length-16
-    returns-16)
+    returns-16
+    same-length-17
+    returns-17)

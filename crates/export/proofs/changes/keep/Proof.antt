@@ -1,5 +1,4 @@
-use mathlib.Core.List.{[]}
-use Rattle.export.proofs.OutcomeLaws.{stored-change, short-change}
+use Rattle.export.proofs.OutcomeLaws.{changed-as, storing-plain, written-change}
 use borrow.Author.Needs.{needs}
 use Rattle.export.proofs.changes.keep.Statement.{statement}
 use Rattle.export.proofs.changes.keep.Tie as tie
@@ -7,17 +6,8 @@ use Rattle.export.proofs.changes.keep.Tie as tie
 store-requires : tie.Need-store-requires
 store-requires c κs = search needs
 
-enum-known-answer : tie.Need-enum-known-answer
-enum-known-answer c = search needs
-
-put-requires : tie.Need-put-requires
-put-requires c κs = search needs
-
-enum-known-answer-2 : tie.Need-enum-known-answer-2
-enum-known-answer-2 c = search needs
-
-refused-requires : tie.Need-refused-requires
-refused-requires c κs = search needs
+put-stored-requires : tie.Need-put-stored-requires
+put-stored-requires c κs = search needs
 
 same-length : tie.Need-same-length
 same-length c = search needs
@@ -28,37 +18,10 @@ same-length-2 c = search needs
 returns : tie.Need-returns
 returns c =
     let put = c .before .before in
-    let answer = put .before .before .before in
-    let store = answer .before .before .before .before in
+    let store = put .before .before .before .before in
     let s = store .before .before .before .before .args in
-    stored-change [] (s .book) (s .buffer .now) (store .store .ensures) (answer .answer .given .1) (put .put .ensures)
-
-same-length-3 : tie.Need-same-length-3
-same-length-3 c = search needs
-
-same-length-4 : tie.Need-same-length-4
-same-length-4 c = search needs
-
-returns-2 : tie.Need-returns-2
-returns-2 c =
-    let refused = c .before .before in
-    let answer = refused .before .before .before in
-    let store = answer .before .before .before .before in
-    let s = store .before .before .before .before .args in
-    short-change [] (s .book) (s .buffer .now) (store .store .ensures) (answer .answer2 .given .1) (refused .refused .ensures)
+    changed-as (storing-plain (s .book) (s .buffer .now)) (written-change (store .store .ensures) (put .put-stored .ensures))
 
 pub keep-spec : {M : Type 1} → statement M
 keep-spec =
-    tie.close
-    (tie.spec
-    store-requires
-    enum-known-answer
-    put-requires
-    enum-known-answer-2
-    refused-requires
-    same-length
-    same-length-2
-    returns
-    same-length-3
-    same-length-4
-    returns-2)
+    tie.close (tie.spec store-requires put-stored-requires same-length same-length-2 returns)

@@ -16,7 +16,7 @@ load-requires c κs = search needs
 returns : tie.Need-returns
 returns c =
     let s = c .before .before .before .before .args in
-    c .load .ensures ∙ ap loaded (front-short (s .length) (s .buffer .now) (c .before .before .if1 .taken))
+    c .load .ensures ∙ ap (loaded 0) (front-short (s .length) (s .buffer .now) (c .before .before .if1 .taken))
 
 slice-aggregate-load-2 : tie.Need-slice-aggregate-load-2
 slice-aggregate-load-2 c =
@@ -29,7 +29,7 @@ load-requires-2 c κs = search needs
 returns-2 : tie.Need-returns-2
 returns-2 c =
     let s = c .before .before .before .before .args in
-    c .load2 .ensures ∙ ap loaded (front-whole (s .length) (s .buffer .now) (omega arith))
+    c .load2 .ensures ∙ ap (loaded 0) (front-whole (s .length) (s .buffer .now) (omega arith))
 
 pub load-front-spec : {M : Type 1} → statement M
 load-front-spec =

@@ -36,7 +36,7 @@ returns c =
     let load = told .before .before in
     let s = load .before .before .before .before .args in
     answered-as
-    (by-asking (s .bytes .now) (λ (b : Book). previewInNumbers (previewedAll b (linesOfEntries (s .lines .now))))
+    (by-asking 0 (s .bytes .now) (λ (b : Book). previewInNumbers (previewedAll b (linesOfEntries (s .lines .now))))
     (load .load .ensures) (told .enum-told .given .1)) (answer .preview-in .ensures)
 
 same-length-2 : tie.Need-same-length-2
@@ -50,7 +50,7 @@ returns-2 c =
     let load = told .before .before in
     let s = load .before .before .before .before .args in
     answered-as
-    (asking-refused (told .answer .given .0 .0) (s .bytes .now)
+    (asking-refused (told .answer .given .0 .0) 0 (s .bytes .now)
     (λ (b : Book). previewInNumbers (previewedAll b (linesOfEntries (s .lines .now))))
     (load .load .ensures) (told .answer .given .1)) (refused .refused .ensures)
 

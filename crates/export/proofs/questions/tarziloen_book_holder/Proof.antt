@@ -31,8 +31,8 @@ returns c =
     let told = answer .before .before .before in
     let load = told .before .before in
     let s = load .before .before .before .args in
-    answered-as (by-asking (s .bytes .now) (λ (b : Book). holderInNumbers (heldFor (s .crew) b (s .link) (s .colour))) (load .load .ensures)
-    (told .enum-told .given .1)) (answer .holder-in .ensures)
+    answered-as (by-asking 0 (s .bytes .now) (λ (b : Book). holderInNumbers (heldFor (s .crew) b (s .link) (s .colour)))
+    (load .load .ensures) (told .enum-told .given .1)) (answer .holder-in .ensures)
 
 same-length-2 : tie.Need-same-length-2
 same-length-2 c = search needs
@@ -44,7 +44,7 @@ returns-2 c =
     let told = refused .before .before .before in
     let load = told .before .before in
     let s = load .before .before .before .args in
-    answered-as (asking-refused (told .answer .given .0 .0) (s .bytes .now)
+    answered-as (asking-refused (told .answer .given .0 .0) 0 (s .bytes .now)
     (λ (b : Book). holderInNumbers (heldFor (s .crew) b (s .link) (s .colour)))
     (load .load .ensures) (told .answer .given .1)) (refused .refused .ensures)
 

@@ -31,7 +31,7 @@ returns c =
     let told = answer .before .before .before in
     let load = told .before .before in
     let s = load .before .before .before .args in
-    answered-as (by-asking (s .bytes .now) (λ (b : Book). showInNumbers (shownTo (s .crew) b (s .serial))) (load .load .ensures)
+    answered-as (by-asking 0 (s .bytes .now) (λ (b : Book). showInNumbers (shownTo (s .crew) b (s .serial))) (load .load .ensures)
     (told .enum-told .given .1)) (answer .show-in .ensures)
 
 same-length-2 : tie.Need-same-length-2
@@ -44,7 +44,8 @@ returns-2 c =
     let told = refused .before .before .before in
     let load = told .before .before in
     let s = load .before .before .before .args in
-    answered-as (asking-refused (told .answer .given .0 .0) (s .bytes .now) (λ (b : Book). showInNumbers (shownTo (s .crew) b (s .serial)))
+    answered-as (asking-refused (told .answer .given .0 .0) 0 (s .bytes .now)
+    (λ (b : Book). showInNumbers (shownTo (s .crew) b (s .serial)))
     (load .load .ensures) (told .answer .given .1)) (refused .refused .ensures)
 
 pub tarziloen-book-show-spec : {M : Type 1} → statement M

@@ -88,6 +88,12 @@ enum-told-23 c = search needs
 enum-told-24 : tie.Need-enum-told-24
 enum-told-24 c = search needs
 
+enum-told-25 : tie.Need-enum-told-25
+enum-told-25 c = search needs
+
+enum-told-26 : tie.Need-enum-told-26
+enum-told-26 c = search needs
+
 returns : tie.Need-returns
 returns c = ap carriedBy (sym (c .enum-told .given .1))
 
@@ -172,6 +178,12 @@ returns-27 c = ap carriedBy (sym (c .enum-told23 .given .1))
 returns-28 : tie.Need-returns-28
 returns-28 c = ap carriedBy (sym (c .enum-told24 .given .1))
 
+returns-29 : tie.Need-returns-29
+returns-29 c = ap carriedBy (sym (c .enum-told25 .given .1))
+
+returns-30 : tie.Need-returns-30
+returns-30 c = ap carriedBy (sym (c .enum-told26 .given .1))
+
 pub carried-by-spec : {M : Type 1} → statement M
 carried-by-spec =
     tie.close
@@ -204,6 +216,8 @@ carried-by-spec =
     enum-told-22
     enum-told-23
     enum-told-24
+    enum-told-25
+    enum-told-26
     returns
     returns-2
     returns-3
@@ -231,4 +245,6 @@ carried-by-spec =
     returns-25
     returns-26
     returns-27
-    returns-28)
+    returns-28
+    returns-29
+    returns-30)

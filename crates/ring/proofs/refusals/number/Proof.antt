@@ -88,6 +88,12 @@ enum-told-27 c = search needs
 enum-told-28 : tie.Need-enum-told-28
 enum-told-28 c = search needs
 
+enum-told-29 : tie.Need-enum-told-29
+enum-told-29 c = search needs
+
+enum-told-30 : tie.Need-enum-told-30
+enum-told-30 c = search needs
+
 returns : tie.Need-returns
 returns c = ap numberOf (sym (c .enum-told .given .1))
 
@@ -172,6 +178,12 @@ returns-27 c = ap numberOf (sym (c .enum-told27 .given .1))
 returns-28 : tie.Need-returns-28
 returns-28 c = ap numberOf (sym (c .enum-told28 .given .1))
 
+returns-29 : tie.Need-returns-29
+returns-29 c = ap numberOf (sym (c .enum-told29 .given .1))
+
+returns-30 : tie.Need-returns-30
+returns-30 c = ap numberOf (sym (c .enum-told30 .given .1))
+
 pub number-spec : {M : Type 1} → statement M
 number-spec =
     tie.close
@@ -204,6 +216,8 @@ number-spec =
     enum-told-26
     enum-told-27
     enum-told-28
+    enum-told-29
+    enum-told-30
     returns
     returns-2
     returns-3
@@ -231,4 +245,6 @@ number-spec =
     returns-25
     returns-26
     returns-27
-    returns-28)
+    returns-28
+    returns-29
+    returns-30)

@@ -1,63 +1,45 @@
--- The table's rule, proved at all of its entries by one test.
-use Prim.Native.Nat.{ℕ}
-use mathlib.Core.Path.{_∙_}
-use mathlib.Core.List.{List, [], _∷_}
-use mathlib.Core.Bool.{Bool}
-use lib.Dec.{eqb, eqb→eq}
-use lib.ListN.{getD}
+use mathlib.Core.Path.{sym, _∙_, ap}
+use Rattle.stored.specs.declared.forms.Form.{Form}
+use Rattle.stored.specs.Forms.{laterBlocks, storedLength}
 use borrow.Author.Needs.{needs}
-use Rattle.stored.specs.Forms.{storedLength}
-use Rattle.stored.proofs.Tables.{at}
 use Rattle.stored.proofs.lengths.stored_length.Statement.{statement}
 use Rattle.stored.proofs.lengths.stored_length.Tie as tie
 
-lengths : List ℕ
-lengths = 512 ∷ 1024 ∷ 1024 ∷ 1024 ∷ 1024 ∷ 1024 ∷ 1024 ∷ 1024 ∷ 1024 ∷ 1024 ∷ 1024 ∷ 1024 ∷ 1024 ∷ 1024 ∷ 1024 ∷ 1024 ∷ 1024 ∷ 1024 ∷ 1024
-    ∷ 1024 ∷ 1024 ∷ 1024 ∷ 1024 ∷ 1024 ∷ 1024 ∷ 1024 ∷ 1024 ∷ 1024 ∷ 1024 ∷ 1024 ∷ 1024 ∷ 1024 ∷ 1024 ∷ 1024 ∷ 1024 ∷ 1024 ∷ 1024 ∷ 1024
-    ∷ 1024 ∷ 1024 ∷ 1024 ∷ 1024 ∷ 1024 ∷ 1024 ∷ 1024 ∷ 1024 ∷ 1024 ∷ 1024 ∷ 1024 ∷ 1024 ∷ 1024 ∷ 1024 ∷ 1024 ∷ 1024 ∷ 1024 ∷ 1024 ∷ 1024
-    ∷ 1024 ∷ 1024 ∷ 1024 ∷ 1024 ∷ 1024 ∷ 1024 ∷ 1024 ∷ 1536 ∷ 1536 ∷ 1536 ∷ 1536 ∷ 1536 ∷ 1536 ∷ 1536 ∷ 1536 ∷ 1536 ∷ 1536 ∷ 1536 ∷ 1536
-    ∷ 1536 ∷ 1536 ∷ 1536 ∷ 1536 ∷ 1536 ∷ 1536 ∷ 1536 ∷ 1536 ∷ 1536 ∷ 1536 ∷ 1536 ∷ 1536 ∷ 1536 ∷ 1536 ∷ 1536 ∷ 1536 ∷ 1536 ∷ 1536 ∷ 1536
-    ∷ 1536 ∷ 1536 ∷ 1536 ∷ 1536 ∷ 1536 ∷ 1536 ∷ 1536 ∷ 1536 ∷ 1536 ∷ 1536 ∷ 1536 ∷ 1536 ∷ 1536 ∷ 1536 ∷ 1536 ∷ 1536 ∷ 1536 ∷ 1536 ∷ 1536
-    ∷ 1536 ∷ 1536 ∷ 1536 ∷ 1536 ∷ 1536 ∷ 1536 ∷ 1536 ∷ 1536 ∷ 1536 ∷ 1536 ∷ 1536 ∷ 1536 ∷ 1536 ∷ 2048 ∷ 2048 ∷ 2048 ∷ 2048 ∷ 2048 ∷ 2048
-    ∷ 2048 ∷ 2048 ∷ 2048 ∷ 2048 ∷ 2048 ∷ 2048 ∷ 2048 ∷ 2048 ∷ 2048 ∷ 2048 ∷ 2048 ∷ 2048 ∷ 2048 ∷ 2048 ∷ 2048 ∷ 2048 ∷ 2048 ∷ 2048 ∷ 2048
-    ∷ 2048 ∷ 2048 ∷ 2048 ∷ 2048 ∷ 2048 ∷ 2048 ∷ 2048 ∷ 2048 ∷ 2048 ∷ 2048 ∷ 2048 ∷ 2048 ∷ 2048 ∷ 2048 ∷ 2048 ∷ 2048 ∷ 2048 ∷ 2048 ∷ 2048
-    ∷ 2048 ∷ 2048 ∷ 2048 ∷ 2048 ∷ 2048 ∷ 2048 ∷ 2048 ∷ 2048 ∷ 2048 ∷ 2048 ∷ 2048 ∷ 2048 ∷ 2048 ∷ 2048 ∷ 2048 ∷ 2048 ∷ 2048 ∷ 2048 ∷ 2048
-    ∷ 2560 ∷ 2560 ∷ 2560 ∷ 2560 ∷ 2560 ∷ 2560 ∷ 2560 ∷ 2560 ∷ 2560 ∷ 2560 ∷ 2560 ∷ 2560 ∷ 2560 ∷ 2560 ∷ 2560 ∷ 2560 ∷ 2560 ∷ 2560 ∷ 2560
-    ∷ 2560 ∷ 2560 ∷ 2560 ∷ 2560 ∷ 2560 ∷ 2560 ∷ 2560 ∷ 2560 ∷ 2560 ∷ 2560 ∷ 2560 ∷ 2560 ∷ 2560 ∷ 2560 ∷ 2560 ∷ 2560 ∷ 2560 ∷ 2560 ∷ 2560
-    ∷ 2560 ∷ 2560 ∷ 2560 ∷ 2560 ∷ 2560 ∷ 2560 ∷ 2560 ∷ 2560 ∷ 2560 ∷ 2560 ∷ 2560 ∷ 2560 ∷ 2560 ∷ 2560 ∷ 2560 ∷ 2560 ∷ 2560 ∷ 2560 ∷ 2560
-    ∷ 2560 ∷ 2560 ∷ 2560 ∷ 2560 ∷ 2560 ∷ 2560 ∷ 3072 ∷ 3072 ∷ 3072 ∷ 3072 ∷ 3072 ∷ 3072 ∷ 3072 ∷ 3072 ∷ 3072 ∷ 3072 ∷ 3072 ∷ 3072 ∷ 3072
-    ∷ 3072 ∷ 3072 ∷ 3072 ∷ 3072 ∷ 3072 ∷ 3072 ∷ 3072 ∷ 3072 ∷ 3072 ∷ 3072 ∷ 3072 ∷ 3072 ∷ 3072 ∷ 3072 ∷ 3072 ∷ 3072 ∷ 3072 ∷ 3072 ∷ 3072
-    ∷ 3072 ∷ 3072 ∷ 3072 ∷ 3072 ∷ 3072 ∷ 3072 ∷ 3072 ∷ 3072 ∷ 3072 ∷ 3072 ∷ 3072 ∷ 3072 ∷ 3072 ∷ 3072 ∷ 3072 ∷ 3072 ∷ 3072 ∷ 3072 ∷ 3072
-    ∷ 3072 ∷ 3072 ∷ 3072 ∷ 3072 ∷ 3072 ∷ 3072 ∷ 3072 ∷ 3072 ∷ 3072 ∷ 3072 ∷ 3072 ∷ 3072 ∷ 3584 ∷ 3584 ∷ 3584 ∷ 3584 ∷ 3584 ∷ 3584 ∷ 3584
-    ∷ 3584 ∷ 3584 ∷ 3584 ∷ 3584 ∷ 3584 ∷ 3584 ∷ 3584 ∷ 3584 ∷ 3584 ∷ 3584 ∷ 3584 ∷ 3584 ∷ 3584 ∷ 3584 ∷ 3584 ∷ 3584 ∷ 3584 ∷ 3584 ∷ 3584
-    ∷ 3584 ∷ 3584 ∷ 3584 ∷ 3584 ∷ 3584 ∷ 3584 ∷ 3584 ∷ 3584 ∷ 3584 ∷ 3584 ∷ 3584 ∷ 3584 ∷ 3584 ∷ 3584 ∷ 3584 ∷ 3584 ∷ 3584 ∷ 3584 ∷ 3584
-    ∷ 3584 ∷ 3584 ∷ 3584 ∷ 3584 ∷ 3584 ∷ 3584 ∷ 3584 ∷ 3584 ∷ 3584 ∷ 3584 ∷ 3584 ∷ 3584 ∷ 3584 ∷ 3584 ∷ 3584 ∷ 3584 ∷ 3584 ∷ 3584 ∷ 4096
-    ∷ 4096 ∷ 4096 ∷ 4096 ∷ 4096 ∷ 4096 ∷ 4096 ∷ 4096 ∷ 4096 ∷ 4096 ∷ 4096 ∷ 4096 ∷ 4096 ∷ 4096 ∷ 4096 ∷ 4096 ∷ 4096 ∷ 4096 ∷ 4096 ∷ 4096
-    ∷ 4096 ∷ 4096 ∷ 4096 ∷ 4096 ∷ 4096 ∷ 4096 ∷ 4096 ∷ 4096 ∷ 4096 ∷ 4096 ∷ 4096 ∷ 4096 ∷ 4096 ∷ 4096 ∷ 4096 ∷ 4096 ∷ 4096 ∷ 4096 ∷ 4096
-    ∷ 4096 ∷ 4096 ∷ 4096 ∷ 4096 ∷ 4096 ∷ 4096 ∷ 4096 ∷ 4096 ∷ 4096 ∷ 4096 ∷ 4096 ∷ 4096 ∷ 4096 ∷ 4096 ∷ 4096 ∷ 4096 ∷ 4096 ∷ 4096 ∷ 4096
-    ∷ 4096 ∷ 4096 ∷ 4096 ∷ 4096 ∷ 4096 ∷ 4608 ∷ 4608 ∷ 4608 ∷ 4608 ∷ 4608 ∷ 4608 ∷ 4608 ∷ 4608 ∷ 4608 ∷ 4608 ∷ 4608 ∷ 4608 ∷ 4608 ∷ 4608
-    ∷ 4608 ∷ 4608 ∷ 4608 ∷ 4608 ∷ 4608 ∷ 4608 ∷ 4608 ∷ 4608 ∷ 4608 ∷ 4608 ∷ 4608 ∷ 4608 ∷ 4608 ∷ 4608 ∷ 4608 ∷ 4608 ∷ 4608 ∷ 4608 ∷ 4608
-    ∷ 4608 ∷ 4608 ∷ 4608 ∷ 4608 ∷ 4608 ∷ 4608 ∷ 4608 ∷ 4608 ∷ 4608 ∷ 4608 ∷ 4608 ∷ 4608 ∷ 4608 ∷ 4608 ∷ 4608 ∷ 4608 ∷ 4608 ∷ 4608 ∷ 4608
-    ∷ 4608 ∷ 4608 ∷ 4608 ∷ 4608 ∷ 4608 ∷ 4608 ∷ 4608 ∷ 4608 ∷ 4608 ∷ 4608 ∷ 4608 ∷ 5120 ∷ 5120 ∷ 5120 ∷ 5120 ∷ 5120 ∷ 5120 ∷ 5120 ∷ 5120
-    ∷ []
+enum-told : tie.Need-enum-told
+enum-told c = search needs
 
-right : ℕ → ℕ → Bool
-right k x = eqb x (storedLength k)
+old-length-requires : tie.Need-old-length-requires
+old-length-requires c κs = search needs
 
-mul-wide : tie.Need-mul-wide
-mul-wide c = search needs
+enum-told-2 : tie.Need-enum-told-2
+enum-told-2 c = search needs
 
-array-read-wide : tie.Need-array-read-wide
-array-read-wide c = search needs
+add-result : tie.Need-add-result
+add-result c = search needs
 
-wide-requires : tie.Need-wide-requires
-wide-requires c κs = search needs
+add-result-2 : tie.Need-add-result-2
+add-result-2 c = search needs
+
+mul-result : tie.Need-mul-result
+mul-result c = search needs
 
 returns : tie.Need-returns
-unfolding lengths right
-returns c = c .wide .ensures
-    ∙ eqb→eq (getD lengths (c .before .args .live) 0) (storedLength (c .before .args .live))
-    (at right lengths tt (c .before .args .live) (search needs))
+returns c = c .old-length .ensures
+    ∙ ap (λ (f : Form). storedLength f (c .before .before .before .args .count)) (sym (c .before .enum-told .given .1))
+
+returns-2 : tie.Need-returns-2
+unfolding laterBlocks
+returns-2 c = ap (λ (f : Form). storedLength f (c .before .before .args .count)) (sym (c .enum-told2 .given .1))
 
 pub stored-length-spec : {M : Type 1} → statement M
-stored-length-spec = tie.close (tie.spec mul-wide array-read-wide wide-requires returns)
+stored-length-spec =
+    tie.close
+    (tie.spec
+    enum-told
+    old-length-requires
+    enum-told-2
+    add-result
+    add-result-2
+    mul-result
+    returns
+    returns-2)

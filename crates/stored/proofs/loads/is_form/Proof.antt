@@ -2,10 +2,12 @@ use Prim.Native.Nat.{ℕ, _≤_}
 use mathlib.Core.Path.{_∙_, ap}
 use native.Mathlib.Omega.{arith}
 use lib.ListN.{length, replicate, length-replicate}
-use borrow.Author.Needs.{needs}
-use Rattle.stored.specs.Storing.{lengthOf}
 use Rattle.ring.specs.Buffers.{sameBytes}
+use Rattle.stored.specs.Forms.{storedLength}
+use Rattle.stored.specs.Storing.{lengthOf}
+use Rattle.stored.proofs.FormLaws.{later-few, longest-small}
 use Rattle.stored.proofs.StoreLaws.{store-front}
+use borrow.Author.Needs.{needs}
 use Rattle.stored.proofs.loads.is_form.Statement.{statement}
 use Rattle.stored.proofs.loads.is_form.Tie as tie
 
@@ -28,7 +30,16 @@ part-same-bytes-start : tie.Need-part-same-bytes-start
 part-same-bytes-start c = search needs
 
 part-same-bytes-end : tie.Need-part-same-bytes-end
-part-same-bytes-end c = search needs
+part-same-bytes-end c =
+    let form = c .before .before .before .before .before .before .before .args .form in
+    let few : c .before .stored-length .result ≤ 7168 =
+    omega (
+      arith,
+      c .before .stored-length .ensures,
+      later-few form (c .before .before .record-count .result) (c .before .before .record-count .ensures .1),
+      longest-small form,
+    ) in
+    search needs
 
 same-bytes-requires : tie.Need-same-bytes-requires
 same-bytes-requires c κs = search needs
@@ -36,19 +47,22 @@ same-bytes-requires c κs = search needs
 returns : tie.Need-returns
 returns c =
     let s = c .before .before .before .before .before .before .before .before .before .args in
-    let room : lengthOf (s .book) ≤ length (replicate {A = ℕ} 5120 0) =
+    let whole = c .before .before .before .stored-length .ensures ∙ ap (storedLength (s .form))
+    (c .before .before .before .before .record-count .ensures .0) in
+    let room : lengthOf (s .form) (s .book) ≤ length (replicate {A = ℕ} 7168 0) =
     omega (
       arith,
-      length-replicate {A = ℕ} 5120 0,
+      length-replicate {A = ℕ} 7168 0,
       c .before .before .before .stored-length .ensures,
-      c .before .before .before .before .record-count .ensures .0,
-      c .before .before .before .before .record-count .ensures .1,
+      later-few (s .form) (c .before .before .before .before .record-count .result)
+          (c .before .before .before .before .record-count .ensures .1),
+      longest-small (s .form),
+      whole,
     ) in
     c .same-bytes .ensures
     ∙ ap (sameBytes (s .bytes .now))
-    (store-front (s .book) (c .before .before .before .before .before .before .write-form .last .1 .0) (replicate 5120 0)
-    (c .before .before .before .stored-length .result)
-    (omega (arith, c .before .before .before .stored-length .ensures, c .before .before .before .before .record-count .ensures .0)) room
+    (store-front (s .form) (s .book) (c .before .before .before .before .before .before .write-form .last .1 .1 .0) (replicate 7168 0)
+    (c .before .before .before .stored-length .result) whole room
     (c .before .before .before .before .before .before .write-form .ensures .1))
 
 pub is-form-spec : {M : Type 1} → statement M

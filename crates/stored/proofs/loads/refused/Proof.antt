@@ -1,7 +1,7 @@
 use mathlib.Core.Path.{ap}
-use borrow.Author.Needs.{needs}
 use Rattle.book.specs.declared.books.Book.{Book}
 use Rattle.stored.specs.declared.loads.LoadAnswer.the-variants as answer
+use borrow.Author.Needs.{needs}
 use Rattle.stored.proofs.loads.refused.Statement.{statement}
 use Rattle.stored.proofs.loads.refused.Tie as tie
 

@@ -13,13 +13,13 @@ use Rattle.stored.proofs.readers.book_in.Statement.{statement}
 use Rattle.stored.proofs.readers.book_in.Tie as tie
 
 abbrev Inv-loop : tie.InvT-loop
-Inv-loop bytes live book₀ count block₀ book block =
+Inv-loop form bytes total book₀ count block₀ book block =
     (1 ≤ block) × (block ≤ count)
     × (book ≡ bookOf (wordAt (partOf bytes 0) 0) (wordAt (partOf bytes 0) 2) (wordAt (partOf bytes 0) 4)
-    (circuitsIn bytes live (block - 1)))
+    (circuitsIn form bytes total (block - 1)))
 
 abbrev μ-loop : tie.MeasureT-loop
-μ-loop bytes live book₀ count block₀ book block = count - block
+μ-loop form bytes total book₀ count block₀ book block = count - block
 
 sub-header : tie.Need-sub-header Inv-loop μ-loop
 sub-header c = search needs
@@ -75,18 +75,20 @@ part-read-block-end c = search needs
 
 read-block-requires : tie.Need-read-block-requires Inv-loop μ-loop
 read-block-requires c κs =
-    let l = c .before .before .before .before .before .before .before .before .before .before .before .args .bytes .now in
+    let s = c .before .before .before .before .before .before .before .before .before .before .before .args in
+    let l = s .bytes .now in
     let t = c .before .before .loop in
-    let live = c .before .before .before .before .before .before .before .at-most-all .result in
-    let e : length (recordsOf (t .book)) ≡ length (circuitsIn l live (t .block - 1)) =
+    let total = c .before .before .before .before .before .before .before .at-most-all .result in
+    let e : length (recordsOf (t .book)) ≡ length (circuitsIn (s .form) l total (t .block - 1)) =
     ap length (records-of (t .book) (wordAt (partOf l 0) 0) (wordAt (partOf l 0) 2) (wordAt (partOf l 0) 4)
-    (circuitsIn l live (t .block - 1)) (t .inv .2)) in
+    (circuitsIn (s .form) l total (t .block - 1)) (t .inv .2)) in
     record {
       size = part-length l (t .block * 512)
           (omega (arith, c .before .before .before .before .before .before .before .before .before .before .before .pre));
-      form = form-of (t .book) (wordAt (partOf l 0) 0) (wordAt (partOf l 0) 2) (wordAt (partOf l 0) 4) (circuitsIn l live (t .block - 1))
+      form = form-of (t .book) (wordAt (partOf l 0) 0) (wordAt (partOf l 0) 2) (wordAt (partOf l 0) 4) (circuitsIn (s .form) l total
+          (t .block - 1))
           (t .inv .2);
-      some = omega (arith, circuits-few l live (t .block - 1));
+      some = omega (arith, circuits-few (s .form) l total (t .block - 1));
       most = omega (arith, c .before .before .before .before .before .before .before .at-most-all .ensures);
     }
 
@@ -98,28 +100,32 @@ loop-less c = search needs
 
 loop-again : tie.Need-loop-again Inv-loop μ-loop
 loop-again c =
-    let l = c .before .before .before .before .before .before .before .before .before .before .before .before .args .bytes .now in
+    let s = c .before .before .before .before .before .before .before .before .before .before .before .before .args in
+    let l = s .bytes .now in
     let t = c .before .before .before .loop in
-    let live = c .before .before .before .before .before .before .before .before .at-most-all .result in
+    let total = c .before .before .before .before .before .before .before .before .at-most-all .result in
     let e : t .block ≡ t .block + 1 - 1 = omega arith in (
       omega arith,
       omega arith,
-      read-next l (take (t .block * 512 + 512 - t .block * 512) (drop (t .block * 512) l)) live (wordAt (partOf l 0) 0)
+      read-next (s .form) l (take (t .block * 512 + 512 - t .block * 512) (drop (t .block * 512) l)) total (wordAt (partOf l 0) 0)
           (wordAt (partOf l 0) 2) (wordAt (partOf l 0) 4) (t .block) (t .book) (c .read-block .result) (t .inv .0) (t .inv .2)
           (part-is l (t .block)) (c .read-block .ensures)
-          ∙ ap (λ (k : ℕ). bookOf (wordAt (partOf l 0) 0) (wordAt (partOf l 0) 2) (wordAt (partOf l 0) 4) (circuitsIn l live k)) e,
+          ∙ ap (λ (k : ℕ). bookOf (wordAt (partOf l 0) 0) (wordAt (partOf l 0) 2) (wordAt (partOf l 0) 4) (circuitsIn
+          (s .form) l total k)) e,
     )
 
 returns : tie.Need-returns Inv-loop μ-loop
 unfolding bookIn
 returns c =
-    let l = c .before .before .before .before .before .before .before .before .before .before .args .bytes .now in
+    let s = c .before .before .before .before .before .before .before .before .before .before .args in
+    let l = s .bytes .now in
     let t = c .before .loop in
-    let live = c .before .before .before .before .before .before .at-most-all .result in
+    let total = c .before .before .before .before .before .before .at-most-all .result in
     let e : t .block - 1 ≡ length l / 512 - 1 = omega arith in
     t .inv .2
-    ∙ ap (λ (k : ℕ). bookOf (wordAt (partOf l 0) 0) (wordAt (partOf l 0) 2) (wordAt (partOf l 0) 4) (circuitsIn l live k)) e
-    ∙ ap (λ (k : ℕ). bookOf (wordAt (partOf l 0) 0) (wordAt (partOf l 0) 2) (wordAt (partOf l 0) 4) (circuitsIn l k (length l / 512 - 1)))
+    ∙ ap (λ (k : ℕ). bookOf (wordAt (partOf l 0) 0) (wordAt (partOf l 0) 2) (wordAt (partOf l 0) 4) (circuitsIn (s .form) l total k)) e
+    ∙ ap (λ (k : ℕ). bookOf (wordAt (partOf l 0) 0) (wordAt (partOf l 0) 2) (wordAt (partOf l 0) 4) (circuitsIn (s .form) l k
+    (length l / 512 - 1)))
     (c .before .before .before .before .before .before .at-most-all .ensures
     ∙ ap (min 512) (c .before .before .before .before .before .before .before .word-at .ensures))
 

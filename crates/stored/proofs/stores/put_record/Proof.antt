@@ -1,59 +1,35 @@
-use borrow.Author.Needs.{needs}
+use native.Mathlib.Omega.{arith}
+use Rattle.ring.proofs.BufferLaws.{written-length}
+use Rattle.stored.proofs.FormLaws.{marks-length}
 use Rattle.stored.proofs.BlockLaws.{record-steps}
+use borrow.Author.Needs.{needs}
 use Rattle.stored.proofs.stores.put_record.Statement.{statement}
 use Rattle.stored.proofs.stores.put_record.Tie as tie
 
-put-word-requires : tie.Need-put-word-requires
-put-word-requires c κs = search needs
+put-fields-requires : tie.Need-put-fields-requires
+put-fields-requires c κs =
+    let s = c .before .before .args in
+    omega (arith, marks-length (s .form) (s .circuit))
 
-add-put-word : tie.Need-add-put-word
-add-put-word c = search needs
+add-put-marks : tie.Need-add-put-marks
+add-put-marks c = search needs
 
-put-word-requires-2 : tie.Need-put-word-requires-2
-put-word-requires-2 c κs = search needs
-
-add-put-word-2 : tie.Need-add-put-word-2
-add-put-word-2 c = search needs
-
-put-word-requires-3 : tie.Need-put-word-requires-3
-put-word-requires-3 c κs = search needs
-
-add-put-word-3 : tie.Need-add-put-word-3
-add-put-word-3 c = search needs
-
-fate-field-requires : tie.Need-fate-field-requires
-fate-field-requires c κs = search needs
-
-put-word-requires-4 : tie.Need-put-word-requires-4
-put-word-requires-4 c κs = search needs
+put-marks-requires : tie.Need-put-marks-requires
+put-marks-requires c κs =
+    let s = c .before .before .before .before .before .before .args in
+    omega (arith, marks-length (s .form) (s .circuit))
 
 same-length : tie.Need-same-length
 same-length c = search needs
 
 returns : tie.Need-returns
 returns c =
-    let s = c .before .before .before .before .before .before .before .before .before .before .before .before .before .before .before
-    .before .before .before in
-    record-steps (s .args .circuit) (s .args .at) (c .before .before .before .fate-field .result) (s .args .block .now)
-    (c .before .before .before .before .before .before .before .before .before .before .before .before .before .before .before .put-word
-    .last .0) (c .before .before .before .before .before .before .before .before .before .before .before .put-word2 .last .0)
-    (c .before .before .before .before .before .before .before .put-word3 .last .0) (c .before .before .put-word4 .last .0)
-    (s .pre) (c .before .before .before .fate-field .ensures)
-    (c .before .before .before .before .before .before .before .before .before .before .before .before .before .before .before .put-word
-    .ensures) (c .before .before .before .before .before .before .before .before .before .before .before .put-word2 .ensures)
-    (c .before .before .before .before .before .before .before .put-word3 .ensures) (c .before .before .put-word4 .ensures)
+    let s = c .before .before .before .before .before .before .before .before .before in
+    let a = s .args in
+    record-steps (a .form) (a .circuit) (a .at) (a .block .now) (c .before .before .before .before .before .before .put-fields .last .0)
+    (c .before .before .put-marks .last .1 .0) (omega (arith, marks-length (a .form) (a .circuit), s .pre))
+    (c .before .before .before .before .before .before .put-fields .ensures) (c .before .before .put-marks .ensures)
 
 pub put-record-spec : {M : Type 1} → statement M
 put-record-spec =
-    tie.close
-    (tie.spec
-    put-word-requires
-    add-put-word
-    put-word-requires-2
-    add-put-word-2
-    put-word-requires-3
-    add-put-word-3
-    fate-field-requires
-    put-word-requires-4
-    same-length
-    returns)
+    tie.close (tie.spec put-fields-requires add-put-marks put-marks-requires same-length returns)

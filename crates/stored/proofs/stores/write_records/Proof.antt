@@ -9,28 +9,30 @@ use Rattle.book.specs.Circuits.{vacant}
 use Rattle.ring.specs.Buffers.{written}
 use Rattle.stored.specs.Blocks.{blockOf}
 use Rattle.stored.specs.Internal.Handing.{sealed}
-use Rattle.stored.specs.Forms.{recordBytes, recordsBytes, circuitsOf}
+use Rattle.stored.specs.Forms.{blockRecords, recordBytes, recordsBytes, firstRecord, circuitsOf}
+use Rattle.stored.specs.Reading.{recordPlace}
 use Rattle.ring.proofs.BufferLaws.{written-length}
 use Rattle.stored.proofs.Lists.{pad, pad-none}
+use Rattle.stored.proofs.FormLaws.{record-length, place-fits, share-small}
 use Rattle.stored.proofs.RecordLaws.{record-next, records-sealed, share, share-few, share-at, later-contents}
 use Rattle.stored.proofs.stores.write_records.Statement.{statement}
 use Rattle.stored.proofs.stores.write_records.Tie as tie
 
 abbrev Inv-loop : tie.InvT-loop
-Inv-loop block₀ number book first count i₀ block i =
-    (i ≤ count) × (length block ≡ 512) × (block ≡ pad (recordsBytes (take i (circuitsOf book (number - 1)))))
+Inv-loop form block₀ number book first count i₀ block i =
+    (i ≤ count) × (length block ≡ 512) × (block ≡ pad (recordsBytes form (take i (circuitsOf form book (number - 1)))))
 
 abbrev μ-loop : tie.MeasureT-loop
-μ-loop block₀ number book first count i₀ block i = count - i
+μ-loop form block₀ number book first count i₀ block i = count - i
 
 clear-requires : tie.Need-clear-requires Inv-loop μ-loop
 clear-requires c κs = search needs
 
-sub-first : tie.Need-sub-first Inv-loop μ-loop
-sub-first c = search needs
+sub-first-record : tie.Need-sub-first-record Inv-loop μ-loop
+sub-first-record c = search needs
 
-mul-first : tie.Need-mul-first Inv-loop μ-loop
-mul-first c = search needs
+first-record-requires : tie.Need-first-record-requires Inv-loop μ-loop
+first-record-requires c κs = search needs
 
 record-count-requires : tie.Need-record-count-requires Inv-loop μ-loop
 record-count-requires c κs = search needs
@@ -43,10 +45,10 @@ block-share-requires c κs = search needs
 
 loop-holds : tie.Need-loop-holds Inv-loop μ-loop
 loop-holds c =
-    let e = c .before .before .before .before .clear .ensures in
-    let size = c .before .before .before .before .before .before .before .pre .size in (
+    let e = c .before .before .before .before .before .clear .ensures in
+    let size = c .before .before .before .before .before .before .before .before .pre .size in (
       omega arith,
-      ap length e ∙ length-replicate (length (c .before .before .before .before .before .before .before .args .block .now)) 0
+      ap length e ∙ length-replicate (length (c .before .before .before .before .before .before .before .before .args .block .now)) 0
           ∙ size,
       e ∙ ap (λ (j : ℕ). replicate j 0) size ∙ sym pad-none,
     )
@@ -60,11 +62,20 @@ mul-circuit c = search needs
 element-copy-out-circuit : tie.Need-element-copy-out-circuit Inv-loop μ-loop
 element-copy-out-circuit c = search needs
 
-mul-put-record : tie.Need-mul-put-record Inv-loop μ-loop
-mul-put-record c = search needs
+record-place-requires : tie.Need-record-place-requires Inv-loop μ-loop
+record-place-requires c κs = omega (
+  arith,
+  c .before .before .before .before .block-share .ensures,
+  share-small
+      (c .before .before .before .before .before .before .before .before .before .before .before .before .args .form),
+)
 
 put-record-requires : tie.Need-put-record-requires Inv-loop μ-loop
-put-record-requires c κs = search needs
+put-record-requires c κs =
+    let form = c .before .before .before .before .before .before .before .before .before .before .before .before .before .args .form in
+    let i = c .before .before .before .before .loop .i in
+    let here : i < blockRecords form = omega (arith, c .before .before .before .before .before .block-share .ensures) in
+    omega (arith, c .record-place .ensures, place-fits form i here, c .before .before .before .before .loop .inv .1)
 
 add-i : tie.Need-add-i Inv-loop μ-loop
 add-i c = search needs
@@ -74,25 +85,35 @@ loop-less c = search needs
 
 loop-again : tie.Need-loop-again Inv-loop μ-loop
 loop-again c =
-    let l = c .before .before .before .before .before .before in
-    let s = c .before .before .before .before .before .before .before .before .before .before .before .before .before .before in
+    let l = c .before .before .before .before .before .before .before .loop in
+    let s = c .before .before .before .before .before .before .before .before .before .before .before .before .before .before .before
+    .before in
+    let form = s .args .form in
+    let b = s .args .t3 in
     let k = s .args .number - 1 in
-    let h : l .loop .i < length (circuitsOf (s .args .t2) k) =
+    let first = c .before .before .before .before .before .before .before .before .before .before .first-record .ensures in
+    let h : l .i < length (circuitsOf form b k) =
     omega (
       arith,
-      share (s .args .t2) k,
-      c .before .before .before .before .before .before .before .block-share .ensures,
-      c .before .before .before .before .before .before .before .before .record-count .ensures .0,
+      share form b k,
+      c .before .before .before .before .before .before .before .before .block-share .ensures,
+      c .before
+          .before .before .before .before .before .before .before .before .record-count .ensures .0,
+      first,
     ) in
-    let few : length (circuitsOf (s .args .t2) k) ≤ 63 = share-few (s .args .t2) k in
-    let e = c .before .before .put-record .ensures in (
+    let few : length (circuitsOf form b k) ≤ blockRecords form = share-few form b k in
+    let e = c .before .before .put-record .ensures
+    ∙ ap (λ (j : ℕ). written (l .block) j (recordBytes form (getD (b .places)
+    (c .before .before .before .before .before .before .before .before .before .before .first-record .result + l .i) vacant)))
+    (c .before .before .before .record-place .ensures)
+    ∙ ap (λ (j : ℕ). written (l .block) (recordPlace form (l .i)) (recordBytes form (getD (b .places) (j + l .i) vacant))) first
+    ∙ ap (λ (x : Circuit). written (l .block) (recordPlace form (l .i)) (recordBytes form x)) (sym (share-at form b k (l .i) h)) in (
       omega arith,
       ap length e
-          ∙ written-length (l .loop .block) (8 * l .loop .i) (recordBytes (getD (s .args .t2 .places) (63 * k + l .loop .i) vacant))
-          (omega arith)
-          ∙ l .loop .inv .1,
-      e ∙ ap (λ (x : Circuit). written (l .loop .block) (8 * l .loop .i) (recordBytes x)) (sym (share-at (s .args .t2) k (l .loop .i) h))
-          ∙ record-next (circuitsOf (s .args .t2) k) (l .loop .i) (l .loop .block) h few (l .loop .inv .2),
+          ∙ written-length (l .block) (recordPlace form (l .i)) (recordBytes form (getD (circuitsOf form b k) (l .i) vacant))
+          (omega (arith, place-fits form (l .i) (omega arith), record-length form (getD (circuitsOf form b k) (l .i) vacant)))
+          ∙ l .inv .1,
+      e ∙ record-next form (circuitsOf form b k) (l .i) (l .block) h few (l .inv .2),
     )
 
 narrow-requires : tie.Need-narrow-requires Inv-loop μ-loop
@@ -106,21 +127,25 @@ same-length c = search needs
 
 returns : tie.Need-returns Inv-loop μ-loop
 returns c =
-    let l = c .before .before .before .before .before .before in
-    let s = c .before .before .before .before .before .before .before .before .before .before .before .before .before .before in
+    let l = c .before .before .before .before .before .before .loop in
+    let s = c .before .before .before .before .before .before .before .before .before .before .before .before .before .before .before in
+    let form = s .args .form in
+    let b = s .args .t3 in
     let k = s .args .number - 1 in
-    let h : length (circuitsOf (s .args .t2) k) ≤ l .loop .i =
+    let h : length (circuitsOf form b k) ≤ l .i =
     omega (
       arith,
-      share (s .args .t2) k,
+      share form b k,
       c .before .before .before .before .before .before .before .block-share .ensures,
-      c .before .before .before .before .before .before .before .before .record-count .ensures .0,
+      c .before .before
+          .before .before .before .before .before .before .record-count .ensures .0,
+      c .before .before .before .before .before .before .before
+          .before .before .first-record .ensures,
     ) in
     c .before .before .seal .ensures
-    ∙ ap (λ (j : ℕ). sealed j (l .loop .block)) (c .before .before .before .narrow .ensures)
-    ∙ records-sealed (s .args .number) (circuitsOf (s .args .t2) k) (l .loop .i) (l .loop .block) h (share-few (s .args .t2) k)
-    (l .loop .inv .2)
-    ∙ ap (blockOf (s .args .number)) (sym (later-contents (s .args .t2) (s .args .number) (s .pre .from)))
+    ∙ ap (λ (j : ℕ). sealed j (l .block)) (c .before .before .before .narrow .ensures)
+    ∙ records-sealed form (s .args .number) (circuitsOf form b k) (l .i) (l .block) h (share-few form b k) (l .inv .2)
+    ∙ ap (blockOf (s .args .number)) (sym (later-contents form b (s .args .number) (s .pre .from)))
 
 pub write-records-spec : {M : Type 1} → statement M
 write-records-spec =
@@ -129,8 +154,8 @@ write-records-spec =
     Inv-loop
     μ-loop
     clear-requires
-    sub-first
-    mul-first
+    sub-first-record
+    first-record-requires
     record-count-requires
     sub-block-share
     block-share-requires
@@ -138,7 +163,7 @@ write-records-spec =
     add-circuit
     mul-circuit
     element-copy-out-circuit
-    mul-put-record
+    record-place-requires
     put-record-requires
     add-i
     loop-less

@@ -13,10 +13,10 @@ use Rattle.stored.proofs.validity.circuits_fit.Statement.{statement}
 use Rattle.stored.proofs.validity.circuits_fit.Tie as tie
 
 abbrev Inv-loop : tie.InvT-loop
-Inv-loop book live held₀ last₀ i₀ held last i = (i ≤ live) × Walk book held last i
+Inv-loop book count held₀ last₀ i₀ held last i = (i ≤ count) × Walk book held last i
 
 abbrev μ-loop : tie.MeasureT-loop
-μ-loop book live held₀ last₀ i₀ held last i = live - i
+μ-loop book count held₀ last₀ i₀ held last i = count - i
 
 record-count-requires : tie.Need-record-count-requires Inv-loop μ-loop
 record-count-requires c κs = search needs

@@ -1,8 +1,8 @@
 use mathlib.Core.Path.{sym, _∙_}
 use borrow.Author.Needs.{needs}
 use Rattle.stored.proofs.StoreLaws.{store-marked, store-unmarked}
-use Rattle.stored.proofs.stores.store.Statement.{statement}
-use Rattle.stored.proofs.stores.store.Tie as tie
+use Rattle.stored.proofs.stores.store_old.Statement.{statement}
+use Rattle.stored.proofs.stores.store_old.Tie as tie
 
 has-marked-requires : tie.Need-has-marked-requires
 has-marked-requires c κs = search needs
@@ -26,5 +26,5 @@ returns-2 c =
     ∙ call .before .before .if1 .left) in
     (call .write-form .ensures .0 ∙ same .0, call .write-form .ensures .1 ∙ same .1)
 
-pub store-spec : {M : Type 1} → statement M
-store-spec = tie.close (tie.spec has-marked-requires returns write-form-requires same-length returns-2)
+pub store-old-spec : {M : Type 1} → statement M
+store-old-spec = tie.close (tie.spec has-marked-requires returns write-form-requires same-length returns-2)

@@ -1,0 +1,37 @@
+use mathlib.Core.Path.{sym}
+use lib.Seq.{length-take-le}
+use native.Mathlib.Omega.{arith}
+use borrow.Author.Needs.{needs}
+use Rattle.rings.proofs.say_refused.Statement.{statement}
+use Rattle.rings.proofs.say_refused.Tie as tie
+
+slice-aggregate-put-refused : tie.Need-slice-aggregate-put-refused
+slice-aggregate-put-refused c = search needs
+
+put-refused-requires : tie.Need-put-refused-requires
+put-refused-requires c κs = search needs
+
+array-share-prefix-line : tie.Need-array-share-prefix-line
+array-share-prefix-line c = search needs
+
+slice-aggregate-write-all : tie.Need-slice-aggregate-write-all
+slice-aggregate-write-all c =
+    let put-refused = c .before .before .put-refused in
+    sym (length-take-le _ _ (omega arith))
+
+write-all-requires : tie.Need-write-all-requires
+write-all-requires c κs = search needs
+
+returns : tie.Need-returns
+returns c = search needs
+
+pub say-refused-spec : {M : Type 1} → statement M
+say-refused-spec =
+    tie.close
+    (tie.spec
+    slice-aggregate-put-refused
+    put-refused-requires
+    array-share-prefix-line
+    slice-aggregate-write-all
+    write-all-requires
+    returns)
