@@ -63,7 +63,7 @@ pub fn is_live(circuit: Circuit) -> bool
     }
 }
 
-// Whether the record is pending or not the desk's, for which the stored form has no room.
+// Whether the record is pending or not the desk's, for which the old stored form has no room.
 pub fn is_marked(circuit: Circuit) -> bool
     ensures { λ r. ⌜ r ≡ isMarked circuit ⌝ }
 {

@@ -10,12 +10,12 @@ use Rattle.book.specs.declared.circuits.Circuit.{Circuit}
 use Rattle.ring.specs.declared.fates.Fate.the-variants.{Served}
 use Rattle.ring.specs.Fates.{fateNumber}
 use Rattle.stored.specs.declared.forms.Form.{Form}
-use Rattle.stored.specs.declared.forms.Form.the-variants.{Old, New}
+use Rattle.stored.specs.declared.forms.Form.the-variants.{New}
 use Rattle.stored.specs.Forms.{stateNumber, fieldsBytes, marksBytes, recordBytes}
 use Rattle.ring.specs.Buffers.{written}
 use Rattle.stored.specs.Blocks.{word, weighted, checkOf, numbered, blockOf}
 use Rattle.stored.specs.Internal.Handing.{sealed}
-use Rattle.ring.proofs.BufferLaws.{written-length, written-twice}
+use Rattle.ring.proofs.BufferLaws.{written-twice}
 use Rattle.stored.proofs.Lists.{pad, pad-none, pad-written, pad-zeros}
 
 -- a number of more than 16 bits is cut

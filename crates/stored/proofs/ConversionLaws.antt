@@ -1,43 +1,22 @@
 -- Conversions: an old file there and back.
 use mathlib.Core.Path.{_≡_, refl, sym, _∙_, ap}
-use mathlib.Core.Bool.{Bool, true, false, cond}
 use mathlib.Core.List.{List, _++_}
 use Prim.Native.Nat.{ℕ, _≤_}
 use native.Mathlib.Omega.{arith}
 use lib.ListN.{length, drop}
 use Rattle.ring.specs.declared.refusals.Refusal.the-variants.{MarkedConversion}
-use Rattle.book.specs.declared.books.Book.{Book}
-use Rattle.book.specs.Books.{hasMarked}
 use Rattle.stored.specs.declared.forms.Form.the-variants.{Old, New}
 use Rattle.stored.specs.declared.loads.LoadAnswer.{LoadAnswer}
 use Rattle.stored.specs.declared.loads.LoadAnswer.the-variants as answer
 use Rattle.stored.specs.declared.loads.Loaded.{Loaded}
-use Rattle.stored.specs.declared.stores.StoreAnswer.{StoreAnswer}
-use Rattle.stored.specs.declared.stores.StoreAnswer.the-variants.{Stored, Refused}
 use Rattle.stored.specs.Forms.{storedForm}
-use Rattle.stored.specs.Storing.{lengthOf, formAnswer, afterForm}
+use Rattle.stored.specs.Storing.{lengthOf}
 use Rattle.stored.specs.Loading.{loaded, loadedOld}
 use Rattle.stored.specs.Converting.{convertAfter, bufferAfter, convertAnswer, afterConvert, backAfter, bufferAfterBack, backAnswer}
 use Rattle.stored.specs.Converting.{afterBack}
-use Rattle.stored.specs.Promises.{IsOldForm, Converts, EveryOldConverts}
-use Rattle.stored.proofs.StoreLaws.{form-length, store-answer, store-copied}
+use Rattle.stored.specs.Promises.{EveryOldConverts}
+use Rattle.stored.proofs.StoreLaws.{form-length, store-answer, store-copied, unmarked-written}
 use Rattle.stored.proofs.Promised.{reads-back, loads-only-old-forms}
-
--- 27, and what is written without it
-module _ (b : Book) (buffer : List ℕ) where
-  pub back-marked : hasMarked b ≡ true
-      → (Refused MarkedConversion ≡ backAfter answer.Loaded b buffer) × (buffer ≡ bufferAfterBack answer.Loaded b buffer)
-  back-marked e = (
-    sym (ap (λ (t : Bool). cond t (Refused MarkedConversion) (formAnswer Old b buffer)) e),
-    sym (ap (λ (t : Bool). cond t buffer (afterForm Old b buffer)) e),
-  )
-
-  pub back-unmarked : hasMarked b ≡ false
-      → (formAnswer Old b buffer ≡ backAfter answer.Loaded b buffer) × (afterForm Old b buffer ≡ bufferAfterBack answer.Loaded b buffer)
-  back-unmarked e = (
-    sym (ap (λ (t : Bool). cond t (Refused MarkedConversion) (formAnswer Old b buffer)) e),
-    sym (ap (λ (t : Bool). cond t buffer (afterForm Old b buffer)) e),
-  )
 
 -- what a load that is told comes to
 pub convert-told : (bytes buffer : List ℕ) (loads : Loaded) → loadedOld bytes ≡ loads
@@ -74,7 +53,7 @@ every-old-converts bytes e =
       back = λ buffer h.
           let again = reads-back b (is .valid) 0 (omega arith) in
           let told = back-told (storedForm New b) buffer _ again in
-          let plain = back-unmarked b buffer (is .unmarked) in
+          let plain = unmarked-written MarkedConversion b buffer (is .unmarked) in
           let room : lengthOf Old b ≤ length buffer = omega arith in (
             told .0 ∙ sym (plain .0) ∙ sym (store-answer Old b buffer _ size room),
             told .1 ∙ sym (plain .1) ∙ store-copied Old b buffer room

@@ -16,7 +16,7 @@ use Rattle.ring.proofs.BufferLaws.{same-refl, same-equal}
 use Rattle.ring.proofs.Cases.{compare, less, not-less, impossible, and-true}
 use Rattle.book.specs.declared.books.Book.{Book}
 use Rattle.book.specs.Circuits.{circuit}
-use Rattle.book.specs.Books.{recordsOf, hasMarked, bookOf, Valid}
+use Rattle.book.specs.Books.{recordsOf, bookOf, Valid}
 use Rattle.book.specs.Revisions.{revision}
 use Rattle.book.proofs.ConflictLaws.{true-and}
 use Rattle.book.proofs.Forms.{records-form}

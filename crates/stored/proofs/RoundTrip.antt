@@ -16,7 +16,7 @@ use Rattle.stored.specs.Blocks.{word, wordAt, blockOf}
 use Rattle.stored.specs.Forms.{blockRecords, formMark, recordsBytes, headerBytes, firstRecord, circuitsOf, contents, blocks}
 use Rattle.stored.specs.Forms.{laterBlocks, blockCount, storedForm}
 use Rattle.stored.specs.Reading.{partOf, blockRight, blocksRight, recordsIn, circuitsIn, bookIn}
-use Rattle.stored.proofs.FormLaws.{first-none, first-next, later-begun, later-all}
+use Rattle.stored.proofs.FormLaws.{first-none, first-next, later-all}
 use Rattle.stored.proofs.RecordLaws.{share}
 use Rattle.stored.proofs.StoreLaws.{contents-few, stored-block-length, blocks-length, form-length}
 use Rattle.stored.proofs.BlockReading.{Fields, word-back, word-cells, behind, block-front, block-is-right, records-back}

@@ -9,7 +9,8 @@ use borrow.Author.Tests.{lt-ltb, le-ltb}
 use borrow.Rule.Slice.PartMut.{putMid}
 use lib.ListN.{length, take, drop, length-append, length-take, length-drop}
 use lib.Seq.{take-at, drop-at, drop-append-add, drop-drop}
-use Rattle.ring.specs.declared.refusals.Refusal.the-variants.{BufferShort, MarkedRecord}
+use Rattle.ring.specs.declared.refusals.Refusal.{Refusal}
+use Rattle.ring.specs.declared.refusals.Refusal.the-variants.{BufferShort}
 use Rattle.book.specs.declared.books.Book.{Book}
 use Rattle.book.specs.Books.{recordsOf, hasMarked}
 use Rattle.stored.specs.declared.forms.Form.{Form}
@@ -17,7 +18,7 @@ use Rattle.stored.specs.declared.forms.Form.the-variants.{Old}
 use Rattle.stored.specs.declared.stores.StoreAnswer.the-variants.{Stored, Refused}
 use Rattle.stored.specs.Blocks.{word, blockOf}
 use Rattle.stored.specs.Forms.{formMark, circuitsOf, contents, blocks, blockCount, storedForm}
-use Rattle.stored.specs.Storing.{lengthOf, formAnswer, afterForm, storeOldAnswer, afterStoreOld}
+use Rattle.stored.specs.Storing.{lengthOf, formAnswer, afterForm}
 use Rattle.stored.proofs.BlockLaws.{block-length}
 use Rattle.stored.proofs.RecordLaws.{records-few, share-few}
 
@@ -111,20 +112,20 @@ module _ (form : Form) (b : Book) where
       ap (λ (l : List ℕ). take (n - 0) l) (g ∙ store-copied old h)
       ∙ take-at (storedForm form b) (drop (lengthOf form b) old) (n - 0) (form-length ∙ sym m)
 
--- in the old form: 25, and what is stored without it
-module _ (b : Book) where
-  pub store-marked : (buffer : List ℕ) → hasMarked b ≡ true
-      → (Refused MarkedRecord ≡ storeOldAnswer b buffer) × (buffer ≡ afterStoreOld b buffer)
-  unfolding storeOldAnswer afterStoreOld
-  store-marked buffer e = (
-    sym (ap (λ (t : Bool). cond t (Refused MarkedRecord) (formAnswer Old b buffer)) e),
+-- the old form: refused by the ground of the call where a record is marked, and written where none is
+module _ (r : Refusal) (b : Book) (buffer : List ℕ) where
+  pub marked-refused : hasMarked b ≡ true
+      → (Refused r ≡ cond (hasMarked b) (Refused r) (formAnswer Old b buffer))
+      × (buffer ≡ cond (hasMarked b) buffer (afterForm Old b buffer))
+  marked-refused e = (
+    sym (ap (λ (t : Bool). cond t (Refused r) (formAnswer Old b buffer)) e),
     sym (ap (λ (t : Bool). cond t buffer (afterForm Old b buffer)) e),
   )
 
-  pub store-unmarked : (buffer : List ℕ) → hasMarked b ≡ false
-      → (formAnswer Old b buffer ≡ storeOldAnswer b buffer) × (afterForm Old b buffer ≡ afterStoreOld b buffer)
-  unfolding storeOldAnswer afterStoreOld
-  store-unmarked buffer e = (
-    sym (ap (λ (t : Bool). cond t (Refused MarkedRecord) (formAnswer Old b buffer)) e),
+  pub unmarked-written : hasMarked b ≡ false
+      → (formAnswer Old b buffer ≡ cond (hasMarked b) (Refused r) (formAnswer Old b buffer))
+      × (afterForm Old b buffer ≡ cond (hasMarked b) buffer (afterForm Old b buffer))
+  unmarked-written e = (
+    sym (ap (λ (t : Bool). cond t (Refused r) (formAnswer Old b buffer)) e),
     sym (ap (λ (t : Bool). cond t buffer (afterForm Old b buffer)) e),
   )

@@ -1,17 +1,12 @@
 -- The stored form of a book after calls reads back as that book, and no file of it that is recent enough shows a removed order.
-use mathlib.Core.Path.{_≡_, refl, sym, _∙_, ap, subst}
-use Prim.Native.Nat.{_≤_}
+use mathlib.Core.Path.{refl, sym, subst}
 use lib.ListN.{drop}
 use Rattle.book.specs.declared.books.Book.{Book}
 use Rattle.book.specs.Books.{opened}
-use Rattle.book.specs.Revisions.{revision, NotShown}
+use Rattle.book.specs.Revisions.{NotShown}
 use Rattle.book.specs.History.{run}
 use Rattle.book.proofs.EveryHistory.{every-history}
 use Rattle.book.proofs.RevisionMoments.{not-revived}
-use Rattle.stored.specs.declared.forms.Form.the-variants.{New}
-use Rattle.stored.specs.declared.loads.Loaded.{Loaded}
-use Rattle.stored.specs.Forms.{storedForm}
-use Rattle.stored.specs.Loading.{loaded}
 use Rattle.stored.specs.Histories.{StoredHistories, NeverRevives}
 use Rattle.stored.proofs.Promised.{reads-back, loads-again}
 

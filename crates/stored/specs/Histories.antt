@@ -28,9 +28,8 @@ abbrev pub StoredHistories : Type 0
 StoredHistories = (n w : ℕ) → ringVerdict n w ≡ Allowed → (calls : List Call)
     → StoredAfter n w calls (storedForm New (run (opened n w .book) calls))
 
--- "among files of one book with no load in its past, a tablet that passes its latest revision never revives an order removed by that
--- revision": of a list of calls from an opening, the latest first, two moments are taken, before the last i and before the last j of them;
--- an order removed by the one is not shown by the file of the other, if it loads under the revision of the one as lowest
+-- "never revives an order removed by that revision": of two moments of a history, before its last i and its last j calls, an order removed
+-- by the one is not shown by the file of the other, if it loads under the revision of the one as lowest
 abbrev pub NeverRevives : Type 0
 NeverRevives = (n w : ℕ) → ringVerdict n w ≡ Allowed → (calls : List Call) (i j serial : ℕ)
     → wasRemoved (history (opened n w .book) (drop i calls)) serial ≡ true

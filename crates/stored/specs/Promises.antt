@@ -8,7 +8,6 @@ use Rattle.ring.specs.declared.refusals.Refusal.the-variants.{BlockCheck}
 use Rattle.book.specs.declared.books.Book.{Book}
 use Rattle.book.specs.Books.{hasMarked, bookOf, Valid}
 use Rattle.book.specs.Revisions.{revision}
-use Rattle.stored.specs.declared.forms.Form.{Form}
 use Rattle.stored.specs.declared.forms.Form.the-variants.{Old, New}
 use Rattle.stored.specs.declared.loads.LoadAnswer.the-variants as answer
 use Rattle.stored.specs.declared.loads.Loaded.{Loaded}

@@ -1,6 +1,7 @@
 use mathlib.Core.Path.{sym, _∙_}
 use borrow.Author.Needs.{needs}
-use Rattle.stored.proofs.ConversionLaws.{back-marked, back-unmarked}
+use Rattle.ring.specs.declared.refusals.Refusal.the-variants.{MarkedConversion}
+use Rattle.stored.proofs.StoreLaws.{marked-refused, unmarked-written}
 use Rattle.stored.proofs.conversions.write_back.Statement.{statement}
 use Rattle.stored.proofs.conversions.write_back.Tie as tie
 
@@ -10,7 +11,7 @@ has-marked-requires c κs = search needs
 returns : tie.Need-returns
 returns c =
     let s = c .before .before .before .args in
-    back-marked (s .book) (s .buffer .now) (sym (c .before .has-marked .ensures) ∙ c .if1 .taken)
+    marked-refused MarkedConversion (s .book) (s .buffer .now) (sym (c .before .has-marked .ensures) ∙ c .if1 .taken)
 
 write-form-requires : tie.Need-write-form-requires
 write-form-requires c κs = search needs
@@ -22,7 +23,7 @@ returns-2 : tie.Need-returns-2
 returns-2 c =
     let call = c .before .before in
     let s = call .before .before .before .before .before .args in
-    let same = back-unmarked (s .book) (s .buffer .now) (sym (call .before .before .before .has-marked .ensures)
+    let same = unmarked-written MarkedConversion (s .book) (s .buffer .now) (sym (call .before .before .before .has-marked .ensures)
     ∙ call .before .before .if1 .left) in
     (call .write-form .ensures .0 ∙ same .0, call .write-form .ensures .1 ∙ same .1)
 

@@ -1,4 +1,4 @@
-use mathlib.Core.Path.{sym, _∙_, ap}
+use mathlib.Core.Path.{_∙_}
 use native.Mathlib.Omega.{arith}
 use Rattle.stored.proofs.LoadLaws.{recent-low, recent-kept}
 use borrow.Author.Needs.{needs}

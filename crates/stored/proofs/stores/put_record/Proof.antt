@@ -1,5 +1,4 @@
 use native.Mathlib.Omega.{arith}
-use Rattle.ring.proofs.BufferLaws.{written-length}
 use Rattle.stored.proofs.FormLaws.{marks-length}
 use Rattle.stored.proofs.BlockLaws.{record-steps}
 use borrow.Author.Needs.{needs}

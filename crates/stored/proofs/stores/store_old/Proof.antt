@@ -1,6 +1,8 @@
 use mathlib.Core.Path.{sym, _∙_}
 use borrow.Author.Needs.{needs}
-use Rattle.stored.proofs.StoreLaws.{store-marked, store-unmarked}
+use Rattle.ring.specs.declared.refusals.Refusal.the-variants.{MarkedRecord}
+use Rattle.stored.specs.Storing.{storeOldAnswer, afterStoreOld}
+use Rattle.stored.proofs.StoreLaws.{marked-refused, unmarked-written}
 use Rattle.stored.proofs.stores.store_old.Statement.{statement}
 use Rattle.stored.proofs.stores.store_old.Tie as tie
 
@@ -8,9 +10,10 @@ has-marked-requires : tie.Need-has-marked-requires
 has-marked-requires c κs = search needs
 
 returns : tie.Need-returns
+unfolding storeOldAnswer afterStoreOld
 returns c =
     let s = c .before .before .before .args in
-    store-marked (s .book) (s .buffer .now) (sym (c .before .has-marked .ensures) ∙ c .if1 .taken)
+    marked-refused MarkedRecord (s .book) (s .buffer .now) (sym (c .before .has-marked .ensures) ∙ c .if1 .taken)
 
 write-form-requires : tie.Need-write-form-requires
 write-form-requires c κs = search needs
@@ -19,10 +22,11 @@ same-length : tie.Need-same-length
 same-length c = search needs
 
 returns-2 : tie.Need-returns-2
+unfolding storeOldAnswer afterStoreOld
 returns-2 c =
     let call = c .before .before in
     let s = call .before .before .before .before .before .args in
-    let same = store-unmarked (s .book) (s .buffer .now) (sym (call .before .before .before .has-marked .ensures)
+    let same = unmarked-written MarkedRecord (s .book) (s .buffer .now) (sym (call .before .before .before .has-marked .ensures)
     ∙ call .before .before .if1 .left) in
     (call .write-form .ensures .0 ∙ same .0, call .write-form .ensures .1 ∙ same .1)
 

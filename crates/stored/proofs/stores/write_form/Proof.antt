@@ -8,7 +8,7 @@ use lib.Seq.{length-take-le}
 use borrow.Author.Needs.{needs}
 use borrow.Rule.Slice.PartMut.{putMid, same-len-mid}
 use Rattle.book.specs.Books.{recordsOf}
-use Rattle.stored.specs.Forms.{blocks, laterBlocks, storedLength}
+use Rattle.stored.specs.Forms.{blocks, storedLength}
 use Rattle.stored.specs.Storing.{lengthOf}
 use Rattle.stored.proofs.FormLaws.{later-begun, later-few, longest-small}
 use Rattle.stored.proofs.StoreLaws.{part-length, stored-block-length, blocks-length, first-block, started, block-next, store-short}

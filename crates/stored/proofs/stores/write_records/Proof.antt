@@ -1,5 +1,5 @@
 -- The loop's invariant: the block begins with the first i records, and is zero behind them.
-use Prim.Native.Nat.{ℕ, _+_, _≤_, _<_, _-_, _*_}
+use Prim.Native.Nat.{ℕ, _+_, _≤_, _<_, _-_}
 use mathlib.Core.Path.{_≡_, sym, _∙_, ap}
 use native.Mathlib.Omega.{arith}
 use lib.ListN.{length, getD, take, replicate, length-replicate}
@@ -9,7 +9,7 @@ use Rattle.book.specs.Circuits.{vacant}
 use Rattle.ring.specs.Buffers.{written}
 use Rattle.stored.specs.Blocks.{blockOf}
 use Rattle.stored.specs.Internal.Handing.{sealed}
-use Rattle.stored.specs.Forms.{blockRecords, recordBytes, recordsBytes, firstRecord, circuitsOf}
+use Rattle.stored.specs.Forms.{blockRecords, recordBytes, recordsBytes, circuitsOf}
 use Rattle.stored.specs.Reading.{recordPlace}
 use Rattle.ring.proofs.BufferLaws.{written-length}
 use Rattle.stored.proofs.Lists.{pad, pad-none}
