@@ -1,17 +1,16 @@
 -- One changed byte changes the check: the weighted sum moves by less than twice 65,521 and, since that is a prime, never by 65,521.
 use Prim.Native.Nat.{ℕ, zero, suc, _+_, _-_, _*_, _/_, _%_, _≤_, _<_}
-use mathlib.Core.Path.{_≡_, refl, sym, _∙_, ap, subst}
-use mathlib.Core.Bool.{Bool, true, false, not, _||_}
+use mathlib.Core.Path.{_≡_, refl, sym, _∙_, ap}
+use mathlib.Core.Bool.{Bool, true, false, true≢false, not, _&&_, _||_}
 use mathlib.Core.List.{List, [], _∷_}
 use native.Mathlib.Omega.{arith}
 use native.Mathlib.Nat.{mul-le-mul, add-mul, mul-mod-right, one-mul}
-use lib.Dec.{T, eqb, ltb}
-use borrow.Author.Tests.{eq-eqb, ltb-true}
-use lib.ListN.{length, getD, take, set, replicate, length-replicate}
+use lib.Dec.{eqb, ltb}
+use borrow.Author.Tests.{eq-eqb, le-ltb}
+use lib.ListN.{length, getD, take, set}
 use lib.Seq.{take-set-lt, getD-take, length-take-le}
-use Rattle.ring.proofs.Cases.{compare, less, not-less}
+use Rattle.ring.proofs.Cases.{compare, less, not-less, and-true}
 use Rattle.stored.specs.Blocks.{weighted, checkOf}
-use Rattle.stored.proofs.Tables.{at}
 
 -- the sum after a change
 pub sum-changed : (l : List ℕ) (s j x m : ℕ) → j < length l → m ≡ s + j + 1 → weighted s (set l j x) + getD l j 0 * m ≡ weighted s l + x * m
@@ -26,22 +25,28 @@ sum-changed (y ∷ ys) s (suc j) x m h e =
     sum-changed ys (s + 1) j x m (omega arith) (omega arith) in
     omega arith
 
--- no number from 2 to 255 divides 65,521
-whole : ℕ → ℕ → Bool
-whole d x = ltb d 2 || not (eqb (65521 % d) 0)
+-- whether every number below n passes a test, by trying them
+abbrev every : (ℕ → Bool) → ℕ → Bool
+every f zero = true
+every f (suc n) = f n && every f n
 
-rows : List ℕ
-rows = replicate 256 0
+passes : (f : ℕ → Bool) (n k : ℕ) → every f n ≡ true → k < n → f k ≡ true
+passes f zero k e h = absurd (omega arith)
+passes f (suc n) k e h =
+    elim (compare k n) [
+      | less p q ↦ passes f n k (and-true (f n) (every f n) e .1) p
+      | not-less p q ↦
+          let last : k ≡ n = omega arith in
+          ap f last ∙ and-true (f n) (every f n) e .0
+    ]
+
+-- no number from 2 to 255 divides 65,521
+whole : ℕ → Bool
+whole d = ltb d 2 || not (eqb (65521 % d) 0)
 
 undivided : (d : ℕ) → 2 ≤ d → d < 256 → 65521 % d ≡ 0 → ⊥
-unfolding whole rows
-undivided d h k e =
-    let l : d < length rows = omega (arith, length-replicate {A = ℕ} 256 0) in
-    go (ltb d 2) refl (subst (λ (t : Bool). T (ltb d 2 || not t)) (eq-eqb (65521 % d) 0 e) (at whole rows tt d l))
-  where
-    go : (t : Bool) → ltb d 2 ≡ t → T (t || false) → ⊥
-    go true p q = omega (arith, ltb-true d 2 p)
-    go false p q = q
+unfolding whole
+undivided d h k e = true≢false (cc (passes whole 256 d refl k, le-ltb d 2 h, eq-eqb (65521 % d) 0 e))
 
 not-prime : (d m : ℕ) → 1 ≤ d → d < 256 → m ≤ 508 → d * m ≡ 65521 → ⊥
 not-prime d m h k l e =

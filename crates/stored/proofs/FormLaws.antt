@@ -42,6 +42,10 @@ unfolding recordPlace
 place-fits Old i h = omega arith
 place-fits New i h = omega arith
 
+pub share-some : (form : Form) → 1 ≤ blockRecords form
+share-some Old = omega arith
+share-some New = omega arith
+
 pub share-small : (form : Form) → blockRecords form ≤ 63
 share-small Old = omega arith
 share-small New = omega arith
@@ -56,6 +60,10 @@ pub first-next : (form : Form) (k : ℕ) → firstRecord form k + blockRecords f
 unfolding firstRecord
 first-next Old k = omega arith
 first-next New k = omega arith
+
+pub first-small : (form : Form) (k : ℕ) → k < 512 → blockRecords form * k ≤ 32768
+first-small Old k h = omega arith
+first-small New k h = omega arith
 
 -- there are as many later blocks as have records
 pub later-begun : (form : Form) (count k : ℕ) → k < laterBlocks form count → firstRecord form k < count

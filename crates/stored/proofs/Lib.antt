@@ -2,7 +2,6 @@
 -- Promised (ReadsBack, LoadsOnlyForms and those of the old form), ConversionLaws (EveryOldConverts), Changes (ChangeRefused,
 -- OldChangeRefused), StoredHistories (StoredHistories, NeverRevives).
 pub mod Lists
-pub mod Tables
 pub mod FormLaws
 pub mod Checks
 pub mod BlockLaws

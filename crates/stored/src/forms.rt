@@ -41,29 +41,28 @@ pub fn record_place(form: Form, i: usize) -> usize
     }
 }
 
+// The records that fill a later block.
+pub fn block_records(form: Form) -> usize
+    ensures { λ r. ⌜ r ≡ blockRecords form ⌝ }
+{
+    match form {
+        Form::Old => 63,
+        Form::New => 42,
+    }
+}
+
 // The number of the first record of a later block, these counted from 0.
 pub fn first_record(form: Form, k: usize) -> usize
     requires { ⌜ k < 512 ⌝ }
     ensures { λ r. ⌜ r ≡ firstRecord form k ⌝ }
 {
-    match form {
-        Form::Old => 63 * k,
-        Form::New => 42 * k,
-    }
+    block_records(form) * k
 }
 
 // The records that a later block holds, of those that are left.
 pub fn block_share(form: Form, left: usize) -> usize
     ensures { λ r. ⌜ r ≡ min (blockRecords form) left ⌝ }
 {
-    match form {
-        Form::Old => smaller(63, left),
-        Form::New => smaller(42, left),
-    }
-}
-
-fn smaller(x: usize, y: usize) -> usize
-    ensures { λ r. ⌜ r ≡ min x y ⌝ }
-{
-    if y < x { y } else { x }
+    let full = block_records(form);
+    if left < full { left } else { full }
 }

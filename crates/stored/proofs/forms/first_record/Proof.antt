@@ -1,30 +1,20 @@
-use mathlib.Core.Path.{sym, ap}
-use Rattle.stored.specs.declared.forms.Form.{Form}
+use Prim.Native.Nat.{ℕ, _*_}
+use mathlib.Core.Path.{ap}
 use Rattle.stored.specs.Forms.{firstRecord}
 use borrow.Author.Needs.{needs}
+use Rattle.stored.proofs.FormLaws.{first-small}
 use Rattle.stored.proofs.forms.first_record.Statement.{statement}
 use Rattle.stored.proofs.forms.first_record.Tie as tie
 
-enum-told : tie.Need-enum-told
-enum-told c = search needs
+block-records-requires : tie.Need-block-records-requires
+block-records-requires c κs = search needs
 
 mul-result : tie.Need-mul-result
-mul-result c = search needs
-
-enum-told-2 : tie.Need-enum-told-2
-enum-told-2 c = search needs
-
-mul-result-2 : tie.Need-mul-result-2
-mul-result-2 c = search needs
+mul-result c = rw (c .block-records .ensures) (search (needs, first-small (c .before .args .form) (c .before .args .k) (c .before .pre)))
 
 returns : tie.Need-returns
 unfolding firstRecord
-returns c = ap (λ (f : Form). firstRecord f (c .before .before .args .k)) (sym (c .enum-told .given .1))
-
-returns-2 : tie.Need-returns-2
-unfolding firstRecord
-returns-2 c = ap (λ (f : Form). firstRecord f (c .before .before .args .k)) (sym (c .enum-told2 .given .1))
+returns c = ap (λ (group : ℕ). group * c .before .args .k) (c .block-records .ensures)
 
 pub first-record-spec : {M : Type 1} → statement M
-first-record-spec =
-    tie.close (tie.spec enum-told mul-result enum-told-2 mul-result-2 returns returns-2)
+first-record-spec = tie.close (tie.spec block-records-requires mul-result returns)

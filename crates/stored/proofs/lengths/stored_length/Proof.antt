@@ -1,45 +1,43 @@
-use mathlib.Core.Path.{sym, _∙_, ap}
-use Rattle.stored.specs.declared.forms.Form.{Form}
-use Rattle.stored.specs.Forms.{laterBlocks, storedLength}
+use Rattle.stored.specs.Forms.{laterBlocks}
 use borrow.Author.Needs.{needs}
+use Rattle.stored.proofs.FormLaws.{share-some, share-small, later-few, longest-small}
 use Rattle.stored.proofs.lengths.stored_length.Statement.{statement}
 use Rattle.stored.proofs.lengths.stored_length.Tie as tie
 
-enum-told : tie.Need-enum-told
-enum-told c = search needs
+block-records-requires : tie.Need-block-records-requires
+block-records-requires c κs = search needs
 
-old-length-requires : tie.Need-old-length-requires
-old-length-requires c κs = search needs
-
-enum-told-2 : tie.Need-enum-told-2
-enum-told-2 c = search needs
+sub-result : tie.Need-sub-result
+sub-result c = search (needs, share-some (c .before .args .form))
 
 add-result : tie.Need-add-result
-add-result c = search needs
+add-result c = search (needs, share-small (c .before .args .form))
 
-add-result-2 : tie.Need-add-result-2
-add-result-2 c = search needs
+div-result : tie.Need-div-result
+div-result c = search (needs, share-some (c .before .args .form))
 
 mul-result : tie.Need-mul-result
-mul-result c = search needs
+unfolding laterBlocks
+mul-result c = rw (c .block-records .ensures)
+    (search (needs, later-few (c .before .args .form) (c .before .args .count) (c .before .pre), longest-small (c .before .args .form)))
+
+add-result-2 : tie.Need-add-result-2
+unfolding laterBlocks
+add-result-2 c = rw (c .block-records .ensures)
+    (search (needs, later-few (c .before .args .form) (c .before .args .count) (c .before .pre), longest-small (c .before .args .form)))
 
 returns : tie.Need-returns
-returns c = c .old-length .ensures
-    ∙ ap (λ (f : Form). storedLength f (c .before .before .before .args .count)) (sym (c .before .enum-told .given .1))
-
-returns-2 : tie.Need-returns-2
 unfolding laterBlocks
-returns-2 c = ap (λ (f : Form). storedLength f (c .before .before .args .count)) (sym (c .enum-told2 .given .1))
+returns c = rw (c .block-records .ensures) (search needs)
 
 pub stored-length-spec : {M : Type 1} → statement M
 stored-length-spec =
     tie.close
     (tie.spec
-    enum-told
-    old-length-requires
-    enum-told-2
+    block-records-requires
+    sub-result
     add-result
-    add-result-2
+    div-result
     mul-result
-    returns
-    returns-2)
+    add-result-2
+    returns)
