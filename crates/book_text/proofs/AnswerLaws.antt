@@ -33,13 +33,13 @@ use Rattle.stored.specs.declared.loads.LoadAnswer.the-variants as load
 use Rattle.stored.specs.Loading.{loaded, loadedOld}
 use Rattle.stored.proofs.Promised.{loads-only-forms, loads-only-old-forms}
 use Rattle.ring.proofs.Cases.{impossible}
-use Rattle.book_text.specs.declared.lines.Command.{Command}
-use Rattle.book_text.specs.declared.lines.Command.the-variants as command
+use Rattle.book_lines.specs.declared.lines.Command.{Command}
+use Rattle.book_lines.specs.declared.lines.Command.the-variants as command
 use Rattle.book_text.specs.declared.answers.State.{State}
 use Rattle.book_text.specs.declared.answers.State.the-variants.{Absent, Broken, Sound}
 use Rattle.book_text.specs.declared.answers.Contents.{Contents}
-use Rattle.book_text.specs.declared.answers.Reply.{Reply}
-use Rattle.book_text.specs.declared.answers.Reply.the-variants as reply
+use Rattle.book_replies.specs.declared.replies.Reply.{Reply}
+use Rattle.book_replies.specs.declared.replies.Reply.the-variants as reply
 use Rattle.book_text.specs.declared.answers.Answered.{Answered}
 use Rattle.book_text.specs.Answers.{foundOld, foundIn, contentsIn, ValidContents, openingBy, grantingBy, removingBy, confirmingBy}
 use Rattle.book_text.specs.Answers.{showingBy, holdingBy, openingAnswer, grantAnswer, removeAnswer, confirmAnswer, showReply}

@@ -1,11 +1,6 @@
 -- The laws that the functions' proofs cite, and the theorems whose statements stand in specs/: LineHistories (OnlyWritingChanges,
 -- LineHistories), Typed (TypedT7).
-pub mod SpaceLaws
-pub mod LineLaws
-pub mod NumberLaws
-pub mod AskingLaws
 pub mod AnswerLaws
-pub mod ReplyLaws
 pub mod ObeyLaws
 pub mod LineHistories
 pub mod Typed

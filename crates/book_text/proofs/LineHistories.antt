@@ -34,14 +34,14 @@ use Rattle.stored.specs.Forms.{storedForm}
 use Rattle.stored.specs.Loading.{loaded, loadedOld}
 use Rattle.stored.proofs.Promised.{reads-back, one-form}
 use Rattle.stored.proofs.StoredHistories.{stored-histories}
-use Rattle.book_text.specs.declared.lines.Command.{Command}
-use Rattle.book_text.specs.declared.lines.Command.the-variants as command
+use Rattle.book_lines.specs.declared.lines.Command.{Command}
+use Rattle.book_lines.specs.declared.lines.Command.the-variants as command
 use Rattle.book_text.specs.declared.answers.State.{State}
 use Rattle.book_text.specs.declared.answers.State.the-variants.{Absent, Broken, Sound}
 use Rattle.book_text.specs.declared.answers.Contents.{Contents}
 use Rattle.book_text.specs.declared.answers.Answered.{Answered}
 use Rattle.book_text.specs.declared.obeying.Need.the-variants.{Writing}
-use Rattle.book_text.specs.Lines.{commandOf}
+use Rattle.book_lines.specs.Lines.{commandOf}
 use Rattle.book_text.specs.Needs.{needOf}
 use Rattle.book_text.specs.Answers.{found, foundOld, foundIn, contentsIn, openingBy, grantingBy, removingBy, confirmingBy}
 use Rattle.book_text.specs.Answers.{answeredNone, answeredBook, answeredIn, answered}

@@ -21,13 +21,13 @@ use Rattle.stored.specs.Forms.{storedForm}
 use Rattle.stored.specs.Storing.{lengthOf, formAnswer, afterForm}
 use Rattle.stored.proofs.FormLaws.{later-few}
 use Rattle.stored.proofs.StoreLaws.{form-length, store-answer, store-copied}
-use Rattle.book_text.specs.declared.lines.Command.{Command}
+use Rattle.book_lines.specs.declared.lines.Command.{Command}
 use Rattle.book_text.specs.declared.answers.Contents.{Contents}
-use Rattle.book_text.specs.declared.answers.Reply.the-variants.{Previewed}
+use Rattle.book_replies.specs.declared.replies.Reply.the-variants.{Previewed}
 use Rattle.book_text.specs.declared.answers.Answered.{Answered}
-use Rattle.book_text.specs.Lines.{heard, commandOf}
+use Rattle.book_lines.specs.Lines.{heard, commandOf}
 use Rattle.book_text.specs.Answers.{contentsIn, ValidContents, answered}
-use Rattle.book_text.specs.Replies.{replyText}
+use Rattle.book_replies.specs.Replies.{replyText}
 use Rattle.book_text.specs.Promises.{File, fileOf, contentsOf, obeyed, Told, ObeyPromise}
 use Rattle.book_text.proofs.AnswerLaws.{valid-found, previewed-valid}
 

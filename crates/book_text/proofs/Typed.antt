@@ -21,12 +21,12 @@ use Rattle.texts.specs.Bytes.{bytes}
 use Rattle.texts.specs.Decimal.{decimal}
 use Rattle.texts.specs.Fields.{field, line}
 use Rattle.texts.specs.Layout.{labelled}
-use Rattle.book_text.specs.declared.lines.Command.the-variants as command
+use Rattle.book_lines.specs.declared.lines.Command.the-variants as command
 use Rattle.book_text.specs.declared.answers.Answered.{Answered}
-use Rattle.book_text.specs.Lines.{singleOf, pairOf, crewedOf, lastOf, askedOf, openOf, grantOf, removeOf, confirmOf, showOf}
-use Rattle.book_text.specs.Lines.{commandWithNumbers, commandIn, squeezed, finished, heard, commandOf}
+use Rattle.book_lines.specs.Lines.{singleOf, pairOf, crewedOf, lastOf, askedOf, openOf, grantOf, removeOf, confirmOf, showOf}
+use Rattle.book_lines.specs.Lines.{commandWithNumbers, commandIn, squeezed, finished, heard, commandOf}
 use Rattle.book_text.specs.Answers.{answeredBook, answered}
-use Rattle.book_text.specs.Replies.{oneNumber, twoNumbers, revisionText, refusedText, replyText}
+use Rattle.book_replies.specs.Replies.{oneNumber, twoNumbers, revisionText, refusedText, replyText}
 use Rattle.book_text.specs.Promises.{File, none, holding, lineAnswer, fileAfter}
 use Rattle.book_text.specs.Histories.{lineAnswers, TypedT7}
 use Rattle.book_text.proofs.AnswerLaws.{book-valid}

@@ -27,15 +27,15 @@ use Rattle.book.specs.Holders.{heldFor}
 use Rattle.stored.specs.declared.loads.LoadAnswer.{LoadAnswer}
 use Rattle.stored.specs.declared.loads.LoadAnswer.the-variants as load
 use Rattle.stored.specs.Loading.{loaded, loadedOld}
-use Rattle.book_text.specs.declared.lines.Command.{Command}
-use Rattle.book_text.specs.declared.lines.Command.the-variants as command
+use Rattle.book_lines.specs.declared.lines.Command.{Command}
+use Rattle.book_lines.specs.declared.lines.Command.the-variants as command
 use Rattle.book_text.specs.declared.answers.State.{State}
 use Rattle.book_text.specs.declared.answers.State.the-variants.{Absent, Broken, Sound}
 use Rattle.book_text.specs.declared.answers.Contents.{Contents}
-use Rattle.book_text.specs.declared.answers.Reply.{Reply}
-use Rattle.book_text.specs.declared.answers.Reply.the-variants.{Opened, Granted, Previewed, Removed, Confirmed, Circuit, Free, Held}
-use Rattle.book_text.specs.declared.answers.Reply.the-variants.{HeldBy, Count, Revision, Orders, PendingOrders, Refused}
-use Rattle.book_text.specs.declared.answers.Reply.the-variants.{BookThere, NoBook, Aside}
+use Rattle.book_replies.specs.declared.replies.Reply.{Reply}
+use Rattle.book_replies.specs.declared.replies.Reply.the-variants.{Opened, Granted, Previewed, Removed, Confirmed, Circuit, Free, Held}
+use Rattle.book_replies.specs.declared.replies.Reply.the-variants.{HeldBy, Count, Revision, Orders, PendingOrders, Refused}
+use Rattle.book_replies.specs.declared.replies.Reply.the-variants.{BookThere, NoBook, Aside}
 use Rattle.book_text.specs.declared.answers.Answered.{Answered}
 
 -- a book that was read

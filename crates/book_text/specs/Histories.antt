@@ -14,9 +14,9 @@ use Rattle.stored.specs.declared.loads.LoadAnswer.the-variants.{Loaded}
 use Rattle.stored.specs.Forms.{storedForm}
 use Rattle.stored.specs.Loading.{loadedOld}
 use Rattle.stored.specs.Histories.{StoredAfter}
-use Rattle.book_text.specs.declared.lines.Command.{Command}
-use Rattle.book_text.specs.declared.lines.Command.the-variants as command
-use Rattle.book_text.specs.Lines.{commandOf}
+use Rattle.book_lines.specs.declared.lines.Command.{Command}
+use Rattle.book_lines.specs.declared.lines.Command.the-variants as command
+use Rattle.book_lines.specs.Lines.{commandOf}
 use Rattle.book_text.specs.Answers.{answeredBook}
 use Rattle.book_text.specs.Promises.{File, none, holding, lineAnswer, fileAfter, obeyed}
 

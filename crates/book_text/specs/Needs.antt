@@ -1,6 +1,6 @@
 -- What a command needs of the file.
-use Rattle.book_text.specs.declared.lines.Command.{Command}
-use Rattle.book_text.specs.declared.lines.Command.the-variants as command
+use Rattle.book_lines.specs.declared.lines.Command.{Command}
+use Rattle.book_lines.specs.declared.lines.Command.the-variants as command
 use Rattle.book_text.specs.declared.obeying.Need.{Need}
 use Rattle.book_text.specs.declared.obeying.Need.the-variants.{Nothing, Reading, Writing}
 

@@ -11,10 +11,10 @@ use Rattle.book_text.specs.declared.answers.Contents.{Contents}
 use Rattle.book_text.specs.declared.answers.Answered.{Answered}
 use Rattle.book_text.specs.declared.obeying.Need.the-variants.{Writing}
 use Rattle.book_text.specs.declared.obeying.Obeyed.{Obeyed}
-use Rattle.book_text.specs.Lines.{heard, commandOf}
+use Rattle.book_lines.specs.Lines.{heard, commandOf}
 use Rattle.book_text.specs.Needs.{needOf}
 use Rattle.book_text.specs.Answers.{contentsIn, answered}
-use Rattle.book_text.specs.Replies.{replyText}
+use Rattle.book_replies.specs.Replies.{replyText}
 
 -- "the bytes of the file (or none)"
 pub data File : Type 0 where

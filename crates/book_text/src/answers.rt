@@ -1,6 +1,4 @@
 // What each command answers and does, by what the file holds.
-use super::lines::Aside;
-use super::lines::Command;
 use book::Book;
 use book::books::OpenAnswer;
 use book::books::live_count;
@@ -15,6 +13,9 @@ use book::orders::ShowAnswer;
 use book::removals::RemoveAnswer;
 use book::remove;
 use book::show;
+use book_lines::Aside;
+use book_lines::Command;
+use book_replies::Reply;
 use ring::Refusal;
 use ring::Way;
 use stored::loads::LoadAnswer;
@@ -38,26 +39,6 @@ pub enum State {
 pub struct Contents {
     pub state: State,
     pub book: Book,
-}
-
-pub enum Reply {
-    Opened(u16, u16),
-    Granted(u16),
-    Previewed,
-    Removed(u16),
-    Confirmed(u16),
-    Circuit(u16, u16, Way, u16),
-    Free,
-    Held,
-    HeldBy(u16),
-    Count(u16, u16),
-    Revision,
-    Orders,
-    PendingOrders,
-    Refused(Refusal),
-    BookThere,
-    NoBook,
-    Aside(Aside),
 }
 
 // The reply, whether the book changed, and the book.

@@ -1,11 +1,6 @@
-// The book's commands: what a line says, what it does to the file, and the text that answers it.
+// The book's commands: what a line does by what the file holds, and what answers it.
 pub mod answers;
-pub mod bundles;
-pub mod lines;
-pub mod numbers;
 pub mod obeying;
-pub mod replies;
-pub mod spaces;
 
 pub use obeying::need_of_line;
 pub use obeying::obey;

@@ -1,10 +1,10 @@
 // A line obeyed: the bytes of its answer and, where it changes the book, the bytes that the file is to hold.
 use super::answers::answer;
 use super::answers::find;
-use super::lines::Command;
-use super::lines::read;
-use super::replies::put_reply;
 use book::Book;
+use book_lines::Command;
+use book_lines::lines::read;
+use book_replies::replies::put_reply;
 use stored::Form;
 use stored::StoreAnswer;
 use stored::stores::write_form;
@@ -14,7 +14,7 @@ ghost use lib.ListN.{length};
 ghost use Rattle.stored.specs.declared.forms.Form.the-variants.{New};
 ghost use Rattle.stored.specs.Forms.{storedForm};
 ghost use Rattle.texts.specs.Internal.Writing.{Wrote};
-ghost use Rattle.book_text.specs.Lines.{commandOf};
+ghost use Rattle.book_lines.specs.Lines.{commandOf};
 ghost use Rattle.book_text.specs.Needs.{needOf};
 ghost use Rattle.book_text.specs.Promises.{fileOf, ObeyPromise};
 

@@ -1,6 +1,6 @@
 // One tool for the desk: `rings SUBCOMMAND [FILE]`. Each subcommand is a proved function on bytes; this reads its input and writes its
 // output.
-use book_text::replies::put_refused;
+use book_replies::replies::put_refused;
 use libc::STDERR_FILENO;
 use libc::STDIN_FILENO;
 use ring::Refusal;

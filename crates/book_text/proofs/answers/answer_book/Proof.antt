@@ -1,6 +1,6 @@
 use Prim.Native.Nat.{ℕ}
 use mathlib.Core.Path.{sym, _∙_, ap}
-use Rattle.book_text.specs.declared.answers.Reply.the-variants.{Count}
+use Rattle.book_replies.specs.declared.replies.Reply.the-variants.{Count}
 use Rattle.book_text.specs.Answers.{only, answeredBook}
 use borrow.Author.Needs.{needs}
 use Rattle.book_text.proofs.answers.answer_book.Statement.{statement}

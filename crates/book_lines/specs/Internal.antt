@@ -1,0 +1,3 @@
+-- For contracts inside and for proofs alone: nothing here has to be believed.
+pub mod Asking
+pub mod Squeezing

@@ -1,0 +1,3 @@
+-- What a line that is typed at the desk says.
+pub mod Lines
+pub mod Internal

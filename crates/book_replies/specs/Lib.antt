@@ -1,0 +1,3 @@
+-- What the desk is told.
+pub mod Replies
+pub mod Internal

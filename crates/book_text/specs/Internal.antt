@@ -1,4 +1,0 @@
--- For contracts inside and for proofs alone: nothing here has to be believed.
-pub mod Asking
-pub mod Squeezing
-pub mod Listing
