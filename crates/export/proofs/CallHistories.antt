@@ -32,13 +32,16 @@ use Rattle.stored.specs.Histories.{StoredAfter}
 use Rattle.stored.proofs.LoadLaws.{recent-low}
 use Rattle.stored.proofs.Promised.{stored-loads, loads-only-forms}
 use Rattle.stored.proofs.StoredHistories.{stored-histories}
-use Rattle.export.specs.Outcomes.{Outcome}
-use Rattle.export.specs.BookCalls.{front, refusing, storing, changing, grantOn, removeOn, confirmOn, openCall, grantCall}
-use Rattle.export.specs.BookCalls.{removeCall, confirmCall, showCall, holderCall, linesOfEntries, previewCall, halves, loadCall}
+use Rattle.outcomes.specs.Outcomes.{Outcome}
+use Rattle.outcomes.specs.Changes.{refusing, storing, changing, grantOn, removeOn, confirmOn}
+use Rattle.export.specs.BookCalls.{front, openCall, grantCall}
+use Rattle.outcomes.specs.Entries.{linesOfEntries, halves}
+use Rattle.export.specs.BookCalls.{removeCall, confirmCall, showCall, holderCall, previewCall, loadCall}
 use Rattle.export.specs.Histories.{Kept, keptBy, answerOf, keptAfter, keptRun, unstored, storedCalls, openedIn, CallHistories}
 use Rattle.export.proofs.Keeping.{Holds, held-valid, changed-held, asked-loaded, bookAfter, Stores, no-room, whole, stores}
 use Rattle.export.proofs.Keeping.{whole-holds, storing-holds, refusing-holds}
-use Rattle.export.proofs.OutcomeLaws.{on-refusal, asking-refused}
+use Rattle.outcomes.proofs.OutcomeLaws.{on-refusal}
+use Rattle.export.proofs.CallLaws.{asking-refused}
 
 -- a change by its answer and its book
 module _ (kept : Kept) (b : Book) (h : Holds kept b) where

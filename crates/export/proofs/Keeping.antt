@@ -30,11 +30,13 @@ use Rattle.stored.specs.Converting.{backAfter, bufferAfterBack, backAnswer, aft
 use Rattle.stored.proofs.StoreLaws.{form-length}
 use Rattle.stored.proofs.LoadLaws.{form-long, load-refused}
 use Rattle.stored.proofs.Promised.{reads-back}
-use Rattle.export.specs.Outcomes.{Outcome, onSuccess}
-use Rattle.export.specs.BookCalls.{front, refusing, storing, changing, grantOn, removeOn, confirmOn, loadedThen, askedOf, openCall}
+use Rattle.outcomes.specs.Outcomes.{Outcome, onSuccess}
+use Rattle.outcomes.specs.Changes.{refusing, storing, changing, grantOn, removeOn, confirmOn}
+use Rattle.export.specs.BookCalls.{front, loadedThen, askedOf, openCall}
 use Rattle.export.specs.BookCalls.{grantCall, removeCall, confirmCall, convertCall, convertBackCall}
 use Rattle.export.specs.Histories.{RefusedLeaves, LengthPast, Kept, keptBy, unstored}
-use Rattle.export.proofs.OutcomeLaws.{front-short, front-whole, on-refusal, loaded-valid, by-asking, form-kept}
+use Rattle.outcomes.proofs.OutcomeLaws.{on-refusal, form-kept}
+use Rattle.export.proofs.CallLaws.{front-short, front-whole, loaded-valid, by-asking}
 
 -- an outcome that is no success has left the buffer
 abbrev Leaves : List ℕ → Outcome → Type 0

@@ -1,6 +1,5 @@
 -- The laws that the functions' proofs cite, and the theorems whose statements stand in specs/: Keeping (RefusedLeaves, LengthPast),
 -- CallHistories.
-pub mod OutcomeLaws
-pub mod EntryLaws
+pub mod CallLaws
 pub mod Keeping
 pub mod CallHistories

@@ -1,56 +1,26 @@
 -- The calls on a book: each loads it, acts, and stores it again if it may have changed.
-use Prim.Native.Nat.{ℕ, _+_, _/_, _%_}
+use Prim.Native.Nat.{ℕ}
 use mathlib.Core.Bool.{cond}
-use mathlib.Core.List.{List, [], _∷_, _++_}
-use lib.Dec.{eqb, ltb}
-use lib.ListN.{length, take, getD}
+use mathlib.Core.List.{List}
+use lib.Dec.{ltb}
+use lib.ListN.{length, take}
 use Rattle.ring.specs.Answers.{InNumbers, gives}
 use Rattle.book.specs.declared.books.Book.{Book}
-use Rattle.book.specs.declared.bundles.Line.{Line}
 use Rattle.book.specs.Books.{opened, openInNumbers}
-use Rattle.book.specs.Grants.{granted, grantInNumbers}
 use Rattle.book.specs.Previews.{previewedAll, previewInNumbers}
-use Rattle.book.specs.Removals.{removed, removeInNumbers}
-use Rattle.book.specs.Confirmations.{confirmed, confirmInNumbers}
 use Rattle.book.specs.Orders.{shownTo, showInNumbers}
 use Rattle.book.specs.Holders.{heldFor, holderInNumbers}
 use Rattle.book.specs.Revisions.{revision}
-use Rattle.stored.specs.Storing.{storeAnswer, afterStore, storeInNumbers}
+use Rattle.stored.specs.Storing.{storeInNumbers}
 use Rattle.stored.specs.Loading.{loaded, loadInNumbers}
 use Rattle.stored.specs.Converting.{convertAnswer, afterConvert, backAnswer, afterBack}
-use Rattle.export.specs.Outcomes.{Outcome, onSuccess}
+use Rattle.outcomes.specs.Outcomes.{Outcome, onSuccess}
+use Rattle.outcomes.specs.Changes.{refusing, changing, grantOn, removeOn, confirmOn}
+use Rattle.outcomes.specs.Entries.{halves, linesOfEntries}
 
 -- the first `size` bytes of a buffer; of one that has fewer, none: load answers 18
 abbrev pub front : ℕ → List ℕ → List ℕ
 front size buffer = take (cond (ltb (length buffer) size) 0 size) buffer
-
--- refusals "change nothing lent"
-abbrev pub refusing : InNumbers → List ℕ → Outcome
-refusing answer buffer = record { answer = answer; buffer = buffer }
-
--- the book is stored: these values, and the length of the stored form behind them; or 17
-abbrev pub storing : List ℕ → Book → List ℕ → Outcome
-storing values b buffer =
-    onSuccess (storeInNumbers (storeAnswer b buffer))
-    (record { answer = gives (values ++ storeInNumbers (storeAnswer b buffer) .values); buffer = afterStore b buffer })
-    (refusing (storeInNumbers (storeAnswer b buffer)) buffer)
-
--- an accepted change, after which the book is this one, is stored
-abbrev pub changing : InNumbers → Book → List ℕ → Outcome
-changing answer b buffer = onSuccess answer (storing (answer .values) b buffer) (refusing answer buffer)
-
--- a grant on a book
-abbrev pub grantOn : Book → ℕ → ℕ → ℕ → ℕ → ℕ → List ℕ → Outcome
-grantOn b x y way colour crew buffer =
-    changing (grantInNumbers (granted b x y way colour crew .answer)) (granted b x y way colour crew .book) buffer
-
--- a removal on a book
-abbrev pub removeOn : Book → ℕ → List ℕ → Outcome
-removeOn b serial buffer = changing (removeInNumbers (removed b serial .answer)) (removed b serial .book) buffer
-
--- a confirmation on a book
-abbrev pub confirmOn : Book → ℕ → List ℕ → Outcome
-confirmOn b serial buffer = changing (confirmInNumbers (confirmed b serial .answer)) (confirmed b serial .book) buffer
 
 -- 18, 19 or 20, or a change of the book that was loaded from the first `size` bytes, of whatever revision
 abbrev pub loadedThen : List ℕ → ℕ → (Book → Outcome) → Outcome
@@ -81,10 +51,6 @@ askedOf lowest bytes question =
     onSuccess (loadInNumbers (loaded lowest bytes .answer)) (question (loaded lowest bytes .book))
     (loadInNumbers (loaded lowest bytes .answer))
 
--- a number of 32 bits in two values: the low 16 bits, and the high ones
-abbrev pub halves : ℕ → List ℕ
-halves x = x % 65536 ∷ x / 65536 ∷ []
-
 -- load under a lowest revision: the revision
 unfoldable pub loadCall : List ℕ → ℕ → InNumbers
 loadCall bytes lowest = askedOf lowest bytes (λ (b : Book). gives (halves (revision b)))
@@ -104,29 +70,6 @@ convertCall bytes buffer = record { answer = storeInNumbers (convertAnswer bytes
 -- convert from the new form back to the old one: the length
 unfoldable pub convertBackCall : List ℕ → List ℕ → Outcome
 convertBackCall bytes buffer = record { answer = storeInNumbers (backAnswer bytes buffer); buffer = afterBack bytes buffer }
-
--- the line whose five numbers stand from an entry on
-abbrev pub lineAt : List ℕ → ℕ → Line
-lineAt entries i = record {
-  x = getD entries i 0;
-  y = getD entries (i + 1) 0;
-  way = getD entries (i + 2) 0;
-  colour = getD entries (i + 3) 0;
-  crew = getD entries (i + 4) 0;
-}
-
--- the lines of entries, five to a line
-abbrev pub fives : List ℕ → List Line
-fives (x ∷ y ∷ way ∷ colour ∷ crew ∷ rest) = record { x = x; y = y; way = way; colour = colour; crew = crew } ∷ fives rest
-fives (x ∷ y ∷ way ∷ colour ∷ []) = []
-fives (x ∷ y ∷ way ∷ []) = []
-fives (x ∷ y ∷ []) = []
-fives (x ∷ []) = []
-fives [] = []
-
--- a number of entries that is no multiple of five lists no line
-unfoldable pub linesOfEntries : List ℕ → List Line
-linesOfEntries entries = cond (eqb (length entries % 5) 0) (fives entries) []
 
 -- load, preview: how many serials, the line and the number of its refusal or 65,535 and 0, the serials
 unfoldable pub previewCall : List ℕ → List ℕ → InNumbers

@@ -4,7 +4,7 @@ use mathlib.Core.List.{List}
 use Rattle.planner.specs.declared.answers.PlanAnswer.{PlanAnswer}
 use Rattle.planner.specs.Plan.{planInNumbers}
 use Rattle.planner.specs.Promise.{PlanPromise}
-use Rattle.export.specs.Outcomes.{Answered}
+use Rattle.outcomes.specs.Outcomes.{Answered}
 
 -- plan: there is an answer that keeps plan's promise, and result and values are its numbers
 pub record PlanCall (n w : ℕ) (ends before after values values-after : List ℕ) (result : ℕ) : Type 0 where

@@ -16,9 +16,11 @@ use Rattle.book.specs.History.{Call, Grant, Remove, Confirm, Show, Holder, run}
 use Rattle.stored.specs.declared.loads.LoadAnswer.the-variants as load
 use Rattle.stored.specs.Loading.{loaded}
 use Rattle.stored.specs.Histories.{StoredAfter}
-use Rattle.export.specs.Outcomes.{Outcome, onSuccess}
-use Rattle.export.specs.BookCalls.{front, grantOn, removeOn, confirmOn, openCall, grantCall, removeCall, confirmCall}
-use Rattle.export.specs.BookCalls.{showCall, holderCall, linesOfEntries, previewCall, halves, loadCall, convertCall, convertBackCall}
+use Rattle.outcomes.specs.Outcomes.{Outcome, onSuccess}
+use Rattle.outcomes.specs.Changes.{grantOn, removeOn, confirmOn}
+use Rattle.export.specs.BookCalls.{front, openCall, grantCall, removeCall, confirmCall}
+use Rattle.outcomes.specs.Entries.{linesOfEntries, halves}
+use Rattle.export.specs.BookCalls.{showCall, holderCall, previewCall, loadCall, convertCall, convertBackCall}
 
 -- a change whose result is not 0 leaves the buffer as it is
 pub record RefusedLeaves : Type 0 where

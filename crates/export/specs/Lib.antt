@@ -1,5 +1,4 @@
 -- The C interface: what each call answers, in numbers.
-pub mod Outcomes
 pub mod Calls
 pub mod BookCalls
 pub mod Histories

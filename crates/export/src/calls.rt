@@ -1,32 +1,16 @@
-// The calls.
-use super::values::part_number;
-use super::values::put;
-use super::values::refused;
+// Plans and checks.
 use checker::CheckAnswer;
 use checker::check;
+use outcomes::values::put;
+use outcomes::values::put_summary;
+use outcomes::values::refused;
 use plan_text::answer;
 use planner::PlanAnswer;
-use planner::Summary;
 use planner::plans::plan;
-ghost use mathlib.Core.Path.{_≡_};
 ghost use Rattle.checker.specs.Check.{checkAnswer, checkInNumbers};
 ghost use Rattle.plan_text.specs.Promise.{AnswerPromise};
-ghost use Rattle.planner.specs.declared.answers.PlanAnswer.the-variants.{Planned};
-ghost use Rattle.planner.specs.Plan.{planInNumbers};
-ghost use Rattle.export.specs.Outcomes.{putFrom, Answered};
+ghost use Rattle.outcomes.specs.Outcomes.{Answered};
 ghost use Rattle.export.specs.Calls.{PlanCall};
-
-// The counts, the part and the ceiling of a plan.
-fn put_summary(values: &mut [u16], summary: Summary)
-    ensures { λ _. ⌜ now (values .exit) ≡ putFrom 0 (planInNumbers (Planned summary) .values) (now (values .entry)) ⌝ }
-{
-    let used = summary.used;
-    put(values, 0, summary.chain);
-    put(values, 1, summary.matched);
-    put(values, 2, summary.paired);
-    put(values, 3, part_number(used));
-    put(values, 4, summary.ceiling);
-}
 
 // Plans the requests of the ends into the table. Values: chain, match, pair, part (0 chain, 1 pair), ceiling.
 #[no_mangle]

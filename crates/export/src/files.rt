@@ -1,23 +1,14 @@
 // Files of a book: the revision of one, and the conversions between the two stored forms.
-use super::values::put;
-use super::values::put_stored;
-use super::values::refused;
 use book::revision;
+use outcomes::values::put_halves;
+use outcomes::values::put_stored;
+use outcomes::values::refused;
 use stored::conversions::convert;
 use stored::conversions::convert_back;
 use stored::loads::LoadAnswer;
 use stored::loads::load;
-ghost use mathlib.Core.Path.{_≡_};
-ghost use Rattle.export.specs.Outcomes.{putFrom, Answered, Changed};
-ghost use Rattle.export.specs.BookCalls.{halves, loadCall, convertCall, convertBackCall};
-
-// A number of 32 bits: its low half, then its high one.
-fn put_halves(values: &mut [u16], number: u32)
-    ensures { λ _. ⌜ now (values .exit) ≡ putFrom 0 (halves number) (now (values .entry)) ⌝ }
-{
-    put(values, 0, (number % 65536) as u16);
-    put(values, 1, (number / 65536) as u16);
-}
+ghost use Rattle.outcomes.specs.Outcomes.{Answered, Changed};
+ghost use Rattle.export.specs.BookCalls.{loadCall, convertCall, convertBackCall};
 
 // Whether the bytes are a stored book of the lowest revision or a later one. Values: its revision, the low half and then the high one.
 #[no_mangle]

@@ -2,6 +2,4 @@
 pub mod calls;
 pub mod changes;
 pub mod files;
-pub mod previews;
 pub mod questions;
-pub mod values;

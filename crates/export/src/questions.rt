@@ -1,47 +1,12 @@
 // Questions to a book in its stored form.
-use super::values::put;
-use super::values::refused;
-use book::Book;
-use book::Circuit;
-use book::holder;
-use book::holders::HolderAnswer;
-use book::orders::ShowAnswer;
-use book::show;
-use ring::fates::way_number;
+use outcomes::previews::preview_in;
+use outcomes::questions::holder_in;
+use outcomes::questions::show_in;
+use outcomes::values::refused;
 use stored::loads::LoadAnswer;
 use stored::loads::load;
-ghost use mathlib.Core.Path.{_≡_};
-ghost use mathlib.Core.List.{[], _∷_};
-ghost use Rattle.book.specs.declared.orders.ShowAnswer.the-variants.{Shown};
-ghost use Rattle.book.specs.Orders.{shownTo, showInNumbers};
-ghost use Rattle.book.specs.Holders.{heldFor, holderInNumbers};
-ghost use Rattle.export.specs.Outcomes.{putFrom, Answered};
-ghost use Rattle.export.specs.BookCalls.{showCall, holderCall};
-
-// The ends, the way and the colour of a circuit.
-fn put_circuit(values: &mut [u16], circuit: Circuit)
-    ensures { λ _. ⌜ now (values .exit) ≡ putFrom 0 (showInNumbers (Shown circuit) .values) (now (values .entry)) ⌝ }
-{
-    let way = circuit.way;
-    put(values, 0, circuit.a);
-    put(values, 1, circuit.b);
-    put(values, 2, way_number(way));
-    put(values, 3, circuit.colour);
-}
-
-// Shows an order of a book to a crew.
-fn show_in(book: Book, serial: u16, crew: u16, values: &mut [u16]) -> u16
-    ensures { λ r. ⌜ Answered (showInNumbers (shownTo crew book serial)) (now (values .entry)) (now (values .exit)) r ⌝ }
-{
-    let answer = show(book, serial, crew);
-    match answer {
-        ShowAnswer::Shown(circuit) => {
-            put_circuit(values, circuit);
-            0
-        }
-        ShowAnswer::Refused(refusal) => refused(refusal, values),
-    }
-}
+ghost use Rattle.outcomes.specs.Outcomes.{Answered};
+ghost use Rattle.export.specs.BookCalls.{showCall, holderCall, previewCall};
 
 // Shows an order of the book in the bytes to a crew. Values: a, b, way (0 plain, 1 seam), colour.
 #[no_mangle]
@@ -64,36 +29,6 @@ pub extern "C" fn tarziloen_book_show(
     }
 }
 
-// The state of a colour on a link, and the serial of its holder or 0.
-fn put_holder(values: &mut [u16], state: u16, serial: u16)
-    ensures { λ _. ⌜ now (values .exit) ≡ putFrom 0 (state ∷ serial ∷ []) (now (values .entry)) ⌝ }
-{
-    put(values, 0, state);
-    put(values, 1, serial);
-}
-
-// The holder of a colour on a link, in a book, as far as a crew may know.
-fn holder_in(book: Book, link: u16, colour: u16, crew: u16, values: &mut [u16]) -> u16
-    ensures { λ r. ⌜ Answered (holderInNumbers (heldFor crew book link colour)) (now (values .entry)) (now (values .exit)) r ⌝ }
-{
-    let answer = holder(book, link, colour, crew);
-    match answer {
-        HolderAnswer::Free => {
-            put_holder(values, 0, 0);
-            0
-        }
-        HolderAnswer::Held => {
-            put_holder(values, 1, 0);
-            0
-        }
-        HolderAnswer::HeldBy(serial) => {
-            put_holder(values, 2, serial);
-            0
-        }
-        HolderAnswer::Refused(refusal) => refused(refusal, values),
-    }
-}
-
 // The holder of a colour on a link, in the book in the bytes, as far as a crew may know. Values: 0 free, 1 held, 2 held by an order that it
 // may read; the serial of that order, or 0.
 #[no_mangle]
@@ -112,6 +47,23 @@ pub extern "C" fn tarziloen_book_holder(
         LoadAnswer::Loaded => {
             let book = loaded.book;
             holder_in(book, link, colour, crew, values)
+        }
+        LoadAnswer::Refused(refusal) => refused(refusal, values),
+    }
+}
+
+// Tries lines, of five entries each, on the book in the bytes. Values: how many serials there are; the line that would be turned down and
+// the number of its refusal, or 65,535 and 0; the serials. Nothing is stored.
+#[no_mangle]
+pub extern "C" fn tarziloen_book_preview(bytes: &[u8], lines: &[u16], values: &mut [u16]) -> u16
+    ensures { λ r. ⌜ Answered (previewCall (now (bytes .entry)) (now (lines .entry))) (now (values .entry)) (now (values .exit)) r ⌝ }
+{
+    let loaded = load(bytes, 0);
+    let answer = loaded.answer;
+    match answer {
+        LoadAnswer::Loaded => {
+            let book = loaded.book;
+            preview_in(book, lines, values)
         }
         LoadAnswer::Refused(refusal) => refused(refusal, values),
     }

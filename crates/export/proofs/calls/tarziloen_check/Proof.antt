@@ -1,6 +1,6 @@
 use mathlib.Core.Path.{refl, sym, _∙_, ap}
 use Rattle.checker.specs.Check.{checkInNumbers}
-use Rattle.export.proofs.OutcomeLaws.{answered-as}
+use Rattle.outcomes.proofs.OutcomeLaws.{answered-as}
 use borrow.Author.Needs.{needs}
 use Rattle.export.proofs.calls.tarziloen_check.Statement.{statement}
 use Rattle.export.proofs.calls.tarziloen_check.Tie as tie

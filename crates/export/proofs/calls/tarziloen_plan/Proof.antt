@@ -1,6 +1,6 @@
 use mathlib.Core.Path.{refl, sym, ap}
 use Rattle.planner.specs.Plan.{planInNumbers}
-use Rattle.export.proofs.OutcomeLaws.{answered-as}
+use Rattle.outcomes.proofs.OutcomeLaws.{answered-as}
 use borrow.Author.Needs.{needs}
 use Rattle.export.proofs.calls.tarziloen_plan.Statement.{statement}
 use Rattle.export.proofs.calls.tarziloen_plan.Tie as tie

@@ -2,7 +2,7 @@ use mathlib.Core.Path.{sym, _∙_, ap}
 use native.Mathlib.Omega.{arith}
 use lib.Seq.{length-take-le}
 use Rattle.stored.specs.Loading.{loaded}
-use Rattle.export.proofs.OutcomeLaws.{front-short, front-whole}
+use Rattle.export.proofs.CallLaws.{front-short, front-whole}
 use borrow.Author.Needs.{needs}
 use Rattle.export.proofs.changes.load_front.Statement.{statement}
 use Rattle.export.proofs.changes.load_front.Tie as tie

@@ -1,6 +1,8 @@
 use Rattle.book.specs.declared.books.Book.{Book}
-use Rattle.export.specs.BookCalls.{confirmOn, confirmCall}
-use Rattle.export.proofs.OutcomeLaws.{by-load, changed-as, load-refused, refused-change}
+use Rattle.outcomes.specs.Changes.{confirmOn}
+use Rattle.export.specs.BookCalls.{confirmCall}
+use Rattle.outcomes.proofs.OutcomeLaws.{changed-as, refused-change}
+use Rattle.export.proofs.CallLaws.{by-load, load-refused}
 use borrow.Author.Needs.{needs}
 use Rattle.export.proofs.changes.tarziloen_book_confirm.Statement.{statement}
 use Rattle.export.proofs.changes.tarziloen_book_confirm.Tie as tie

@@ -1,6 +1,8 @@
 use Rattle.book.specs.declared.books.Book.{Book}
-use Rattle.export.specs.BookCalls.{front, grantOn, grantCall}
-use Rattle.export.proofs.OutcomeLaws.{by-load, changed-as, load-refused, loaded-valid, refused-change}
+use Rattle.outcomes.specs.Changes.{grantOn}
+use Rattle.export.specs.BookCalls.{front, grantCall}
+use Rattle.outcomes.proofs.OutcomeLaws.{changed-as, refused-change}
+use Rattle.export.proofs.CallLaws.{by-load, load-refused, loaded-valid}
 use borrow.Author.Needs.{needs}
 use Rattle.export.proofs.changes.tarziloen_book_grant.Statement.{statement}
 use Rattle.export.proofs.changes.tarziloen_book_grant.Tie as tie

@@ -1,4 +1,5 @@
-use Rattle.export.proofs.OutcomeLaws.{by-open, changed-as, open-refused, refused-change}
+use Rattle.outcomes.proofs.OutcomeLaws.{changed-as, refused-change}
+use Rattle.export.proofs.CallLaws.{by-open, open-refused}
 use borrow.Author.Needs.{needs}
 use Rattle.export.proofs.changes.tarziloen_book_open.Statement.{statement}
 use Rattle.export.proofs.changes.tarziloen_book_open.Tie as tie

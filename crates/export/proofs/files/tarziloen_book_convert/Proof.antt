@@ -1,5 +1,5 @@
 use Rattle.export.specs.BookCalls.{convertCall}
-use Rattle.export.proofs.OutcomeLaws.{written-change}
+use Rattle.outcomes.proofs.OutcomeLaws.{written-change}
 use borrow.Author.Needs.{needs}
 use Rattle.export.proofs.files.tarziloen_book_convert.Statement.{statement}
 use Rattle.export.proofs.files.tarziloen_book_convert.Tie as tie

@@ -1,5 +1,5 @@
 use Rattle.export.specs.BookCalls.{convertBackCall}
-use Rattle.export.proofs.OutcomeLaws.{written-change}
+use Rattle.outcomes.proofs.OutcomeLaws.{written-change}
 use borrow.Author.Needs.{needs}
 use Rattle.export.proofs.files.tarziloen_book_convert_back.Statement.{statement}
 use Rattle.export.proofs.files.tarziloen_book_convert_back.Tie as tie

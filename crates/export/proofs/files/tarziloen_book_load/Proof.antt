@@ -2,8 +2,10 @@ use mathlib.Core.Path.{refl, _∙_}
 use Rattle.ring.specs.Answers.{gives}
 use Rattle.book.specs.declared.books.Book.{Book}
 use Rattle.book.specs.Revisions.{revision}
-use Rattle.export.specs.BookCalls.{halves, loadCall}
-use Rattle.export.proofs.OutcomeLaws.{answered-as, asking-refused, by-asking}
+use Rattle.outcomes.specs.Entries.{halves}
+use Rattle.export.specs.BookCalls.{loadCall}
+use Rattle.outcomes.proofs.OutcomeLaws.{answered-as}
+use Rattle.export.proofs.CallLaws.{asking-refused, by-asking}
 use borrow.Author.Needs.{needs}
 use Rattle.export.proofs.files.tarziloen_book_load.Statement.{statement}
 use Rattle.export.proofs.files.tarziloen_book_load.Tie as tie

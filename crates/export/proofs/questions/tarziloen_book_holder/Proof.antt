@@ -1,7 +1,8 @@
 use Rattle.book.specs.declared.books.Book.{Book}
 use Rattle.book.specs.Holders.{heldFor, holderInNumbers}
 use Rattle.export.specs.BookCalls.{holderCall}
-use Rattle.export.proofs.OutcomeLaws.{answered-as, asking-refused, by-asking}
+use Rattle.outcomes.proofs.OutcomeLaws.{answered-as}
+use Rattle.export.proofs.CallLaws.{asking-refused, by-asking}
 use borrow.Author.Needs.{needs}
 use Rattle.export.proofs.questions.tarziloen_book_holder.Statement.{statement}
 use Rattle.export.proofs.questions.tarziloen_book_holder.Tie as tie

@@ -1,0 +1,4 @@
+-- What operations come to, in numbers.
+pub mod Outcomes
+pub mod Changes
+pub mod Entries
