@@ -1,5 +1,5 @@
 -- The laws that the functions' proofs cite, and the theorems whose statements stand in specs/:
--- Sameness (SameMeans), ConflictLaws (ConflictMeans), Validity (KeepsValid), PreviewLaws (PreviewSays), PlaceLaws (PlacesUsedAgain),
+-- Sameness (SameMeans), ConflictLaws (ConflictMeans), Validity (KeepsValid), PlaceLaws (PlacesUsedAgain),
 -- NoNodeLaws (TurnsAllDown), EveryHistory, Readings (DeskReads, Isolation), RevisionLaws (RevisionRises, RevisionCounts), RevisionMoments
 -- (NotRevived).
 pub mod Places
@@ -18,9 +18,6 @@ pub mod ConflictLaws
 pub mod Verdicts
 pub mod Granting
 pub mod Validity
-pub mod PreviewLaws
-pub mod Trials
-pub mod BundleLaws
 pub mod Standings
 pub mod StandingChanges
 pub mod Holding

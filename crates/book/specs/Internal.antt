@@ -1,5 +1,4 @@
 -- For contracts inside and for proofs alone: nothing here has to be believed.
-pub mod Bundles
 pub mod Conflicts
 pub mod Entering
 pub mod Places

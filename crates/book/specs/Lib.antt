@@ -4,7 +4,6 @@ pub mod Books
 pub mod Crews
 pub mod Holders
 pub mod Grants
-pub mod Previews
 pub mod Orders
 pub mod Removals
 pub mod Confirmations

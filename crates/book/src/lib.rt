@@ -1,26 +1,20 @@
 // The ring book: which circuits are live or pending, by which ways, in which colours, under which serials.
 pub mod books;
-pub mod bundles;
 pub mod circuits;
 pub mod confirmations;
 pub mod crews;
 pub mod grants;
 pub mod holders;
 pub mod orders;
-pub mod previews;
 pub mod removals;
 pub mod revisions;
 
 pub use books::Book;
 pub use books::open;
-pub use bundles::Bundle;
-pub use bundles::Line;
 pub use circuits::Circuit;
 pub use confirmations::confirm;
 pub use grants::grant;
 pub use holders::holder;
 pub use orders::show;
-pub use previews::Previewed;
-pub use previews::preview;
 pub use removals::remove;
 pub use revisions::revision;

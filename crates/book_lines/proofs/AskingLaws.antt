@@ -11,10 +11,10 @@ use Rattle.texts.specs.Internal.Positions.{FieldRead}
 use Rattle.texts.specs.declared.fields.FieldAt.{FieldAt}
 use Rattle.texts.specs.declared.fields.FieldAt.the-variants as fieldAt
 use Rattle.texts.proofs.FieldLaws.{field-found, field-lost}
-use Rattle.book.specs.declared.bundles.Line.{Line}
-use Rattle.book.specs.declared.bundles.Bundle.{Bundle}
-use Rattle.book.specs.Internal.Bundles.{Bundled}
-use Rattle.book.proofs.BundleLaws.{no-lines, some-lines}
+use Rattle.book_bundles.specs.declared.bundles.Line.{Line}
+use Rattle.book_bundles.specs.declared.bundles.Bundle.{Bundle}
+use Rattle.book_bundles.specs.Internal.Bundles.{Bundled}
+use Rattle.book_bundles.proofs.BundleLaws.{no-lines, some-lines}
 use Rattle.book_lines.specs.declared.lines.Command.{Command}
 use Rattle.book_lines.specs.declared.lines.Command.the-variants as command
 use Rattle.book_lines.specs.declared.numbers.CrewedAt.{CrewedAt}

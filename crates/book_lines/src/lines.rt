@@ -8,7 +8,7 @@ use super::numbers::last_at;
 use super::numbers::pair_at;
 use super::numbers::single_at;
 use super::spaces::squeeze;
-use book::Bundle;
+use book_bundles::Bundle;
 use ring::buffers::same_bytes;
 use texts::fields::FieldAt;
 use texts::fields::field;
@@ -16,7 +16,7 @@ ghost use mathlib.Core.Path.{_≡_};
 ghost use Prim.Native.Nat.{_≤_};
 ghost use lib.ListN.{length, take, drop};
 ghost use Rattle.book_lines.specs.Lines.{starts, openOf, grantOf, previewOf, removeOf, confirmOf, showOf, holderOf};
-ghost use Rattle.book.specs.Internal.Bundles.{Bundled};
+ghost use Rattle.book_bundles.specs.Internal.Bundles.{Bundled};
 ghost use Rattle.book_lines.specs.Lines.{linesIn, commandWithNumbers, commandIn, finished, heard, commandOf};
 
 pub enum Command {

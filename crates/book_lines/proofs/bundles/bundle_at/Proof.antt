@@ -1,7 +1,7 @@
 -- The loop's invariant: the lines before a place are in the bundle.
 use mathlib.Core.Path.{sym, subst}
 use native.Mathlib.Omega.{arith}
-use Rattle.book.specs.Internal.Bundles.{Bundled}
+use Rattle.book_bundles.specs.Internal.Bundles.{Bundled}
 use Rattle.book_lines.proofs.AskingLaws.{asked-within, Reading, reading-begins, reading-out, reading-ended, reading-past}
 use Rattle.book_lines.proofs.AskingLaws.{reading-lost, reading-goes-on}
 use borrow.Author.Needs.{needs}
