@@ -11,16 +11,16 @@ use Rattle.texts.specs.Internal.Positions.{FieldRead}
 use Rattle.texts.specs.declared.fields.FieldAt.{FieldAt}
 use Rattle.texts.specs.declared.fields.FieldAt.the-variants as fieldAt
 use Rattle.texts.proofs.FieldLaws.{field-found, field-lost}
-use Rattle.book_bundles.specs.declared.bundles.Line.{Line}
-use Rattle.book_bundles.specs.declared.bundles.Bundle.{Bundle}
-use Rattle.book_bundles.specs.Internal.Bundles.{Bundled}
-use Rattle.book_bundles.proofs.BundleLaws.{no-lines, some-lines}
+use Rattle.bundles.specs.declared.bundles.Line.{Line}
+use Rattle.bundles.specs.declared.bundles.Bundle.{Bundle}
+use Rattle.bundles.specs.Internal.Bundles.{Bundled}
+use Rattle.bundles.proofs.BundleLaws.{no-lines, some-lines}
 use Rattle.book_lines.specs.declared.lines.Command.{Command}
 use Rattle.book_lines.specs.declared.lines.Command.the-variants as command
 use Rattle.book_lines.specs.declared.numbers.CrewedAt.{CrewedAt}
 use Rattle.book_lines.specs.declared.numbers.CrewedAt.the-variants as crewedAt
-use Rattle.book_lines.specs.declared.bundles.AskedAt.{AskedAt}
-use Rattle.book_lines.specs.declared.bundles.AskedAt.the-variants as askedAt
+use Rattle.book_lines.specs.declared.asking.AskedAt.{AskedAt}
+use Rattle.book_lines.specs.declared.asking.AskedAt.the-variants as askedAt
 use Rattle.book_lines.specs.Lines.{comma, Asked, broken, asked, askedOf, behindComma, linesFrom, bundleOf, onLines}
 use Rattle.book_lines.specs.Lines.{unreadable, grantOf, previewOf}
 use Rattle.book_lines.specs.Internal.Asking.{CrewedRead, askedIn, AskedRead}

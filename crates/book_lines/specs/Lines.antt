@@ -6,7 +6,7 @@ use lib.Dec.{eqb, ltb}
 use lib.ListN.{length, drop, getD}
 use Rattle.ring.specs.Buffers.{sameBytes}
 use Rattle.texts.specs.Fields.{space, lineFeed, field, onField, line, onLine}
-use Rattle.book_bundles.specs.declared.bundles.Line.{Line}
+use Rattle.bundles.specs.declared.bundles.Line.{Line}
 use Rattle.book.specs.Circuits.{desk}
 use Rattle.book_lines.specs.declared.lines.Command.{Command}
 use Rattle.book_lines.specs.declared.lines.Command.the-variants as command

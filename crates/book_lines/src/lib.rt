@@ -1,5 +1,5 @@
 // What a line that is typed at the desk says.
-pub mod bundles;
+pub mod asking;
 pub mod lines;
 pub mod numbers;
 pub mod spaces;

@@ -1,14 +1,14 @@
 // What a line says: a command with its numbers.
-use super::bundles::AskedAt;
-use super::bundles::asked_at;
-use super::bundles::bundle_at;
+use super::asking::AskedAt;
+use super::asking::asked_at;
+use super::asking::bundle_at;
 use super::numbers::Pair;
 use super::numbers::Single;
 use super::numbers::last_at;
 use super::numbers::pair_at;
 use super::numbers::single_at;
 use super::spaces::squeeze;
-use book_bundles::Bundle;
+use bundles::Bundle;
 use ring::buffers::same_bytes;
 use texts::fields::FieldAt;
 use texts::fields::field;
@@ -16,7 +16,7 @@ ghost use mathlib.Core.Path.{_≡_};
 ghost use Prim.Native.Nat.{_≤_};
 ghost use lib.ListN.{length, take, drop};
 ghost use Rattle.book_lines.specs.Lines.{starts, openOf, grantOf, previewOf, removeOf, confirmOf, showOf, holderOf};
-ghost use Rattle.book_bundles.specs.Internal.Bundles.{Bundled};
+ghost use Rattle.bundles.specs.Internal.Bundles.{Bundled};
 ghost use Rattle.book_lines.specs.Lines.{linesIn, commandWithNumbers, commandIn, finished, heard, commandOf};
 
 pub enum Command {

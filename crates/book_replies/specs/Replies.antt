@@ -12,12 +12,12 @@ use Rattle.texts.specs.Layout.{labelled, wayEnding}
 use Rattle.texts.specs.Grounds.{groundOf}
 use Rattle.book.specs.declared.circuits.Circuit.{Circuit}
 use Rattle.book.specs.declared.books.Book.{Book}
-use Rattle.book_bundles.specs.declared.previews.PreviewAnswer.{PreviewAnswer}
-use Rattle.book_bundles.specs.declared.previews.PreviewAnswer.the-variants as preview
-use Rattle.book_bundles.specs.declared.previews.Previewed.{Previewed}
+use Rattle.bundles.specs.declared.previews.PreviewAnswer.{PreviewAnswer}
+use Rattle.bundles.specs.declared.previews.PreviewAnswer.the-variants as preview
+use Rattle.bundles.specs.declared.previews.Previewed.{Previewed}
 use Rattle.book.specs.Books.{liveOf, pendingOf}
 use Rattle.book.specs.Revisions.{revision}
-use Rattle.book_bundles.specs.Previews.{serialsOf, previewedAll}
+use Rattle.bundles.specs.Previews.{serialsOf, previewedAll}
 use Rattle.book_lines.specs.declared.lines.Aside.{Aside}
 use Rattle.book_lines.specs.declared.lines.Aside.the-variants as aside
 use Rattle.book_lines.specs.Lines.{linesIn}

@@ -15,7 +15,7 @@ use Rattle.book.specs.declared.grants.Granted.{Granted}
 use Rattle.book.specs.Books.{Valid, bookOf, openUnless, opened, openInNumbers}
 use Rattle.book.specs.Grants.{circuitOf, grantVerdict, grantUnless, granted, grantInNumbers}
 use Rattle.book.specs.Orders.{shownTo, showInNumbers}
-use Rattle.book_bundles.specs.Previews.{previewedAll, previewInNumbers}
+use Rattle.bundles.specs.Previews.{previewedAll, previewInNumbers}
 use Rattle.book.specs.Removals.{removed, removeInNumbers}
 use Rattle.book.specs.Confirmations.{confirmed, confirmInNumbers}
 use Rattle.book.specs.Holders.{heldFor, holderInNumbers}

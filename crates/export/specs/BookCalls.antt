@@ -7,7 +7,7 @@ use lib.ListN.{length, take}
 use Rattle.ring.specs.Answers.{InNumbers, gives}
 use Rattle.book.specs.declared.books.Book.{Book}
 use Rattle.book.specs.Books.{opened, openInNumbers}
-use Rattle.book_bundles.specs.Previews.{previewedAll, previewInNumbers}
+use Rattle.bundles.specs.Previews.{previewedAll, previewInNumbers}
 use Rattle.book.specs.Orders.{shownTo, showInNumbers}
 use Rattle.book.specs.Holders.{heldFor, holderInNumbers}
 use Rattle.book.specs.Revisions.{revision}

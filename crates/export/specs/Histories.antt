@@ -9,7 +9,7 @@ use Rattle.ring.specs.Answers.{InNumbers, gives, refuses}
 use Rattle.ring.specs.declared.refusals.Refusal.the-variants.{StoredLength, RevisionLow}
 use Rattle.book.specs.Books.{opened}
 use Rattle.book.specs.Orders.{shownTo, showInNumbers}
-use Rattle.book_bundles.specs.Previews.{previewedAll, previewInNumbers}
+use Rattle.bundles.specs.Previews.{previewedAll, previewInNumbers}
 use Rattle.book.specs.Holders.{heldFor, holderInNumbers}
 use Rattle.book.specs.Revisions.{revision}
 use Rattle.book.specs.History.{Call, Grant, Remove, Confirm, Show, Holder, run}

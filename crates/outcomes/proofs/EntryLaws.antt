@@ -8,13 +8,13 @@ use lib.Seq.{append-snoc}
 use borrow.Author.Tests.{eq-eqb, ne-eqb}
 use Rattle.ring.proofs.ListLaws.{drop-next}
 use Rattle.book.specs.declared.books.Book.{Book}
-use Rattle.book_bundles.specs.declared.bundles.Line.{Line}
-use Rattle.book_bundles.specs.declared.bundles.Bundle.{Bundle}
-use Rattle.book_bundles.specs.declared.previews.PreviewAnswer.{PreviewAnswer}
-use Rattle.book_bundles.specs.declared.previews.Previewed.{Previewed}
-use Rattle.book_bundles.specs.Previews.{serialsOf, previewed, previewedAll, previewNumbers, previewInNumbers}
-use Rattle.book_bundles.specs.Internal.Bundles.{Bundled}
-use Rattle.book_bundles.proofs.BundleLaws.{bundle-says}
+use Rattle.bundles.specs.declared.bundles.Line.{Line}
+use Rattle.bundles.specs.declared.bundles.Bundle.{Bundle}
+use Rattle.bundles.specs.declared.previews.PreviewAnswer.{PreviewAnswer}
+use Rattle.bundles.specs.declared.previews.Previewed.{Previewed}
+use Rattle.bundles.specs.Previews.{serialsOf, previewed, previewedAll, previewNumbers, previewInNumbers}
+use Rattle.bundles.specs.Internal.Bundles.{Bundled}
+use Rattle.bundles.proofs.BundleLaws.{bundle-says}
 use Rattle.outcomes.specs.Outcomes.{putFrom}
 use Rattle.outcomes.specs.Entries.{lineAt, fives, linesOfEntries}
 

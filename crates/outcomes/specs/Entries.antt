@@ -4,7 +4,7 @@ use mathlib.Core.Bool.{cond}
 use mathlib.Core.List.{List, [], _∷_}
 use lib.Dec.{eqb}
 use lib.ListN.{length, getD}
-use Rattle.book_bundles.specs.declared.bundles.Line.{Line}
+use Rattle.bundles.specs.declared.bundles.Line.{Line}
 
 -- a number of 32 bits in two values: the low 16 bits, and the high ones
 abbrev pub halves : ℕ → List ℕ

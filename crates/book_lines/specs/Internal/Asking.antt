@@ -5,8 +5,8 @@ use mathlib.Core.List.{List}
 use lib.ListN.{length, drop}
 use Rattle.book_lines.specs.declared.numbers.CrewedAt.{CrewedAt}
 use Rattle.book_lines.specs.declared.numbers.CrewedAt.the-variants as crewedAt
-use Rattle.book_lines.specs.declared.bundles.AskedAt.{AskedAt}
-use Rattle.book_lines.specs.declared.bundles.AskedAt.the-variants as askedAt
+use Rattle.book_lines.specs.declared.asking.AskedAt.{AskedAt}
+use Rattle.book_lines.specs.declared.asking.AskedAt.the-variants as askedAt
 use Rattle.book_lines.specs.Lines.{Crewed, none, crewed, crewedOf, Asked, broken, asked, askedOf}
 
 -- a number and its crew with the text behind them

@@ -4,7 +4,7 @@ use native.Mathlib.Omega.{arith}
 use lib.ListN.{length-take}
 use lib.Seq.{getD-take}
 use Rattle.texts.proofs.WritingLaws.{wrote-length}
-use Rattle.book_bundles.specs.Previews.{serialsOf}
+use Rattle.bundles.specs.Previews.{serialsOf}
 use Rattle.book_replies.proofs.ReplyLaws.{Written, written-none, written-room, written-next, written-all}
 use borrow.Author.Needs.{needs}
 use Rattle.book_replies.proofs.replies.put_serials.Statement.{statement}

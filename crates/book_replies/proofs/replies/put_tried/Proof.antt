@@ -1,7 +1,7 @@
 use mathlib.Core.Path.{_∙_, subst}
 use Rattle.texts.specs.Internal.Writing.{Wrote}
-use Rattle.book_bundles.specs.declared.previews.Previewed.{Previewed}
-use Rattle.book_bundles.proofs.BundleLaws.{bundle-says}
+use Rattle.bundles.specs.declared.previews.Previewed.{Previewed}
+use Rattle.bundles.proofs.BundleLaws.{bundle-says}
 use Rattle.book_replies.specs.Replies.{previewText}
 use borrow.Author.Needs.{needs}
 use Rattle.book_replies.proofs.replies.put_tried.Statement.{statement}

@@ -1,6 +1,6 @@
 use mathlib.Core.Path.{sym, _∙_}
 use native.Mathlib.Omega.{arith}
-use Rattle.book_bundles.specs.Previews.{serialsOf}
+use Rattle.bundles.specs.Previews.{serialsOf}
 use Rattle.book_replies.proofs.ReplyLaws.{none-granted, some-granted, grant-short}
 use borrow.Author.Needs.{needs}
 use Rattle.book_replies.proofs.replies.put_would_grant.Statement.{statement}

@@ -1,5 +1,5 @@
 use Rattle.book.specs.declared.books.Book.{Book}
-use Rattle.book_bundles.specs.Previews.{previewedAll, previewInNumbers}
+use Rattle.bundles.specs.Previews.{previewedAll, previewInNumbers}
 use Rattle.outcomes.specs.Entries.{linesOfEntries}
 use Rattle.export.specs.BookCalls.{previewCall}
 use Rattle.outcomes.proofs.OutcomeLaws.{answered-as}

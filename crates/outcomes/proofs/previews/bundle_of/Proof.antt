@@ -3,7 +3,7 @@ use Prim.Native.Nat.{_-_, _/_, _≤_}
 use mathlib.Core.Path.{_≡_, refl, sym, subst}
 use native.Mathlib.Omega.{arith}
 use lib.ListN.{length}
-use Rattle.book_bundles.specs.Internal.Bundles.{Bundled}
+use Rattle.bundles.specs.Internal.Bundles.{Bundled}
 use Rattle.outcomes.proofs.EntryLaws.{lines-none, bundled-many, Filling, filling-begins, filling-goes-on, filling-ends}
 use borrow.Author.Needs.{needs}
 use Rattle.outcomes.proofs.previews.bundle_of.Statement.{statement}

@@ -4,7 +4,7 @@ use mathlib.Core.Path.{_≡_, refl, sym, _∙_, ap}
 use native.Mathlib.Omega.{arith}
 use lib.ListN.{length, getD, drop, set, length-set, length-take}
 use lib.Seq.{getD-take}
-use Rattle.book_bundles.specs.Previews.{serialsOf}
+use Rattle.bundles.specs.Previews.{serialsOf}
 use Rattle.outcomes.specs.Outcomes.{putFrom}
 use Rattle.outcomes.proofs.EntryLaws.{put-next, put-ended}
 use borrow.Author.Needs.{needs}

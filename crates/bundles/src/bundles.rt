@@ -1,6 +1,6 @@
 // Bundles: grants that are tried together.
 ghost use mathlib.Core.List.{List, [], _∷_, _++_};
-ghost use Rattle.book_bundles.specs.Internal.Bundles.{Bundled};
+ghost use Rattle.bundles.specs.Internal.Bundles.{Bundled};
 
 // A grant that is asked for: two ends in any order, the way (0 plain, 1 seam), the colour, the crew.
 pub struct Line {

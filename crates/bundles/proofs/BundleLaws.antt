@@ -10,11 +10,11 @@ use lib.Seq.{take-suc-set, take-length}
 use Rattle.ring.specs.declared.refusals.Verdict.{Verdict}
 use Rattle.ring.proofs.Cases.{less, not-less, compare}
 use Rattle.book.specs.declared.books.Book.{Book}
-use Rattle.book_bundles.specs.declared.bundles.Line.{Line}
-use Rattle.book_bundles.specs.declared.bundles.Bundle.{Bundle}
-use Rattle.book_bundles.specs.Previews.{sizeVerdict, previewUnless, previewed, previewedAll}
-use Rattle.book_bundles.specs.Internal.Bundles.{Bundled}
-use Rattle.book_bundles.proofs.PreviewLaws.{size-refused}
+use Rattle.bundles.specs.declared.bundles.Line.{Line}
+use Rattle.bundles.specs.declared.bundles.Bundle.{Bundle}
+use Rattle.bundles.specs.Previews.{sizeVerdict, previewUnless, previewed, previewedAll}
+use Rattle.bundles.specs.Internal.Bundles.{Bundled}
+use Rattle.bundles.proofs.PreviewLaws.{size-refused}
 
 -- one line more
 module _ (bundle : Bundle) (l : Line) (ls : List Line) (has : Bundled bundle ls) where

@@ -13,13 +13,13 @@ use Rattle.ring.specs.declared.refusals.Verdict.the-variants as verdict
 use Rattle.ring.specs.Refusals.{numberOf, refuseIf}
 use Rattle.ring.specs.Answers.{InNumbers, gives, refuses}
 use Rattle.book.specs.declared.books.Book.{Book}
-use Rattle.book_bundles.specs.declared.bundles.Line.{Line}
+use Rattle.bundles.specs.declared.bundles.Line.{Line}
 use Rattle.book.specs.declared.grants.GrantAnswer.{GrantAnswer}
 use Rattle.book.specs.declared.grants.GrantAnswer.the-variants as grant
 use Rattle.book.specs.declared.grants.Granted.{Granted}
-use Rattle.book_bundles.specs.declared.previews.PreviewAnswer.{PreviewAnswer}
-use Rattle.book_bundles.specs.declared.previews.PreviewAnswer.the-variants as answer
-use Rattle.book_bundles.specs.declared.previews.Previewed.{Previewed}
+use Rattle.bundles.specs.declared.previews.PreviewAnswer.{PreviewAnswer}
+use Rattle.bundles.specs.declared.previews.PreviewAnswer.the-variants as answer
+use Rattle.bundles.specs.declared.previews.Previewed.{Previewed}
 use Rattle.book.specs.Books.{Valid}
 use Rattle.book.specs.Grants.{argumentVerdict, granted}
 

@@ -2,8 +2,8 @@ use mathlib.Core.Path.{_≡_, sym, _∙_}
 use native.Mathlib.Omega.{arith}
 use lib.ListN.{length, length-map, length-take}
 use borrow.Author.Needs.{needs}
-use Rattle.book_bundles.proofs.previews.serial_count.Statement.{statement}
-use Rattle.book_bundles.proofs.previews.serial_count.Tie as tie
+use Rattle.bundles.proofs.previews.serial_count.Statement.{statement}
+use Rattle.bundles.proofs.previews.serial_count.Tie as tie
 
 wide-requires : tie.Need-wide-requires
 wide-requires c κs = search needs

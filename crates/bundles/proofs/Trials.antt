@@ -11,19 +11,19 @@ use Rattle.ring.specs.declared.refusals.Verdict.{Verdict}
 use Rattle.ring.specs.declared.refusals.Verdict.the-variants as verdict
 use Rattle.ring.proofs.ListLaws.{drop-next}
 use Rattle.book.specs.declared.books.Book.{Book}
-use Rattle.book_bundles.specs.declared.bundles.Line.{Line}
+use Rattle.bundles.specs.declared.bundles.Line.{Line}
 use Rattle.book.specs.declared.grants.GrantAnswer.{GrantAnswer}
 use Rattle.book.specs.declared.grants.GrantAnswer.the-variants as grant
 use Rattle.book.specs.declared.grants.Granted.{Granted}
-use Rattle.book_bundles.specs.declared.previews.PreviewAnswer.{PreviewAnswer}
-use Rattle.book_bundles.specs.declared.previews.PreviewAnswer.the-variants as answer
-use Rattle.book_bundles.specs.declared.previews.Previewed.{Previewed}
+use Rattle.bundles.specs.declared.previews.PreviewAnswer.{PreviewAnswer}
+use Rattle.bundles.specs.declared.previews.PreviewAnswer.the-variants as answer
+use Rattle.bundles.specs.declared.previews.Previewed.{Previewed}
 use Rattle.book.specs.Books.{Valid}
 use Rattle.book.specs.Grants.{argumentVerdict, GrantPromise}
-use Rattle.book_bundles.specs.Previews.{line, grantedLine, serialThen, serialsFor, stopThen, stopFrom, entries, sizeVerdict, noPreview}
-use Rattle.book_bundles.specs.Previews.{previewUnless, previewed, PreviewPromise}
+use Rattle.bundles.specs.Previews.{line, grantedLine, serialThen, serialsFor, stopThen, stopFrom, entries, sizeVerdict, noPreview}
+use Rattle.bundles.specs.Previews.{previewUnless, previewed, PreviewPromise}
 use Rattle.book.proofs.Validity.{grant-valid}
-use Rattle.book_bundles.proofs.PreviewLaws.{size-within}
+use Rattle.bundles.proofs.PreviewLaws.{size-within}
 
 -- what a line comes to, by the answer of its grant
 module _ (copy : Book) (l : Line) (rest : List Line) (g : Granted) (p : g ≡ grantedLine copy l) (a : GrantAnswer) (e : g .answer ≡ a) where

@@ -1,12 +1,12 @@
 -- The loop's invariant: the lines before a place are in the bundle.
 use mathlib.Core.Path.{sym, subst}
 use native.Mathlib.Omega.{arith}
-use Rattle.book_bundles.specs.Internal.Bundles.{Bundled}
+use Rattle.bundles.specs.Internal.Bundles.{Bundled}
 use Rattle.book_lines.proofs.AskingLaws.{asked-within, Reading, reading-begins, reading-out, reading-ended, reading-past}
 use Rattle.book_lines.proofs.AskingLaws.{reading-lost, reading-goes-on}
 use borrow.Author.Needs.{needs}
-use Rattle.book_lines.proofs.bundles.bundle_at.Statement.{statement}
-use Rattle.book_lines.proofs.bundles.bundle_at.Tie as tie
+use Rattle.book_lines.proofs.asking.bundle_at.Statement.{statement}
+use Rattle.book_lines.proofs.asking.bundle_at.Tie as tie
 
 abbrev Inv-loop : tie.InvT-loop
 Inv-loop text at bundle₀ place₀ left₀ bundle place left = Reading text at place left bundle

@@ -1,8 +1,8 @@
 use mathlib.Core.Path.{_∙_}
 use borrow.Author.Needs.{needs}
-use Rattle.book_bundles.specs.Previews.{sizeVerdict}
-use Rattle.book_bundles.proofs.previews.size_verdict.Statement.{statement}
-use Rattle.book_bundles.proofs.previews.size_verdict.Tie as tie
+use Rattle.bundles.specs.Previews.{sizeVerdict}
+use Rattle.bundles.proofs.previews.size_verdict.Statement.{statement}
+use Rattle.bundles.proofs.previews.size_verdict.Tie as tie
 
 either-requires : tie.Need-either-requires
 either-requires c κs = search needs

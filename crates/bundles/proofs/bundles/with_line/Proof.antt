@@ -2,9 +2,9 @@ use mathlib.Core.Path.{_≡_, sym, _∙_}
 use native.Mathlib.Omega.{arith}
 use lib.ListN.{length, length-map}
 use borrow.Author.Needs.{needs}
-use Rattle.book_bundles.proofs.BundleLaws.{bundled-crowded, bundled-full, bundled-more}
-use Rattle.book_bundles.proofs.bundles.with_line.Statement.{statement}
-use Rattle.book_bundles.proofs.bundles.with_line.Tie as tie
+use Rattle.bundles.proofs.BundleLaws.{bundled-crowded, bundled-full, bundled-more}
+use Rattle.bundles.proofs.bundles.with_line.Statement.{statement}
+use Rattle.bundles.proofs.bundles.with_line.Tie as tie
 
 returns : tie.Need-returns
 returns c = λ lines has. bundled-crowded (c .before .args .bundle) (c .before .args .line) lines has (c .if1 .taken)

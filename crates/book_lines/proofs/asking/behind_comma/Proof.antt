@@ -1,8 +1,8 @@
 use native.Mathlib.Omega.{arith}
 use Rattle.book_lines.proofs.AskingLaws.{comma-space, comma-none, comma-last}
 use borrow.Author.Needs.{needs}
-use Rattle.book_lines.proofs.bundles.behind_comma.Statement.{statement}
-use Rattle.book_lines.proofs.bundles.behind_comma.Tie as tie
+use Rattle.book_lines.proofs.asking.behind_comma.Statement.{statement}
+use Rattle.book_lines.proofs.asking.behind_comma.Tie as tie
 
 shared-slice-read-if2 : tie.Need-shared-slice-read-if2
 shared-slice-read-if2 c = search needs

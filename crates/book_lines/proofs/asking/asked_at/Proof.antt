@@ -1,8 +1,8 @@
 use Rattle.texts.proofs.FieldLaws.{field-found}
 use Rattle.book_lines.proofs.AskingLaws.{lost-first, lost-second, lost-third, lost-fourth, all-found}
 use borrow.Author.Needs.{needs}
-use Rattle.book_lines.proofs.bundles.asked_at.Statement.{statement}
-use Rattle.book_lines.proofs.bundles.asked_at.Tie as tie
+use Rattle.book_lines.proofs.asking.asked_at.Statement.{statement}
+use Rattle.book_lines.proofs.asking.asked_at.Tie as tie
 
 field-requires : tie.Need-field-requires
 field-requires c κs = search needs

@@ -1,15 +1,15 @@
 // The lines of a bundle, as they are typed.
 use super::numbers::CrewedAt;
 use super::numbers::crewed_at;
-use book_bundles::Bundle;
-use book_bundles::Line;
-use book_bundles::bundles::with_line;
+use bundles::Bundle;
+use bundles::Line;
+use bundles::bundles::with_line;
 use texts::fields::FieldAt;
 use texts::fields::field;
 ghost use mathlib.Core.Path.{_≡_};
 ghost use Prim.Native.Nat.{_≤_};
 ghost use lib.ListN.{length, drop};
-ghost use Rattle.book_bundles.specs.Internal.Bundles.{Bundled};
+ghost use Rattle.bundles.specs.Internal.Bundles.{Bundled};
 ghost use Rattle.book_lines.specs.Lines.{behindComma, bundleOf};
 ghost use Rattle.book_lines.specs.Internal.Asking.{AskedRead};
 

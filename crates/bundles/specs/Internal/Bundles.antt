@@ -3,8 +3,8 @@ use Prim.Native.Nat.{_≤_, _<_}
 use mathlib.Core.Path.{_≡_}
 use mathlib.Core.List.{List}
 use lib.ListN.{length, take}
-use Rattle.book_bundles.specs.declared.bundles.Line.{Line}
-use Rattle.book_bundles.specs.declared.bundles.Bundle.{Bundle}
+use Rattle.bundles.specs.declared.bundles.Line.{Line}
+use Rattle.bundles.specs.declared.bundles.Bundle.{Bundle}
 
 -- the bundle has these lines; where they are too many, it says no more than that
 pub record Bundled (bundle : Bundle) (ls : List Line) : Type 0 where

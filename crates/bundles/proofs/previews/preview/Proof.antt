@@ -4,10 +4,10 @@ use mathlib.Core.Path.{_≡_, refl, sym, _∙_}
 use native.Mathlib.Omega.{arith}
 use lib.ListN.{length, length-map}
 use borrow.Author.Needs.{needs}
-use Rattle.book_bundles.proofs.PreviewLaws.{refused-by-size}
-use Rattle.book_bundles.proofs.Trials.{Trial, trial-begins, within, trial-goes-on, stopped, all-granted}
-use Rattle.book_bundles.proofs.previews.preview.Statement.{statement}
-use Rattle.book_bundles.proofs.previews.preview.Tie as tie
+use Rattle.bundles.proofs.PreviewLaws.{refused-by-size}
+use Rattle.bundles.proofs.Trials.{Trial, trial-begins, within, trial-goes-on, stopped, all-granted}
+use Rattle.bundles.proofs.previews.preview.Statement.{statement}
+use Rattle.bundles.proofs.previews.preview.Tie as tie
 
 abbrev Inv-loop : tie.InvT-loop
 Inv-loop bundle count copy₀ serials₀ number₀ i₀ copy serials number i =

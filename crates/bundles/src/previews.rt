@@ -11,7 +11,7 @@ use ring::refusals::refuse_if;
 ghost use mathlib.Core.Path.{_≡_};
 ghost use Prim.Native.Nat.{_≤_};
 ghost use lib.ListN.{length};
-ghost use Rattle.book_bundles.specs.Previews.{sizeVerdict, noPreview, serialsOf, PreviewPromise};
+ghost use Rattle.bundles.specs.Previews.{sizeVerdict, noPreview, serialsOf, PreviewPromise};
 
 // Every line would be granted; or this line, counted from 0, would be turned down; or no line was looked at.
 pub enum PreviewAnswer {

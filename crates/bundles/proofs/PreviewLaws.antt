@@ -15,14 +15,14 @@ use Rattle.ring.specs.declared.refusals.Verdict.the-variants as verdict
 use Rattle.ring.proofs.AdmissionLaws.{refuse-allowed}
 use Rattle.ring.proofs.Cases.{less, not-less, compare, impossible}
 use Rattle.book.specs.declared.books.Book.{Book}
-use Rattle.book_bundles.specs.declared.bundles.Line.{Line}
+use Rattle.bundles.specs.declared.bundles.Line.{Line}
 use Rattle.book.specs.declared.grants.GrantAnswer.{GrantAnswer}
 use Rattle.book.specs.declared.grants.GrantAnswer.the-variants as grant
-use Rattle.book_bundles.specs.declared.previews.PreviewAnswer.{PreviewAnswer}
-use Rattle.book_bundles.specs.declared.previews.PreviewAnswer.the-variants as answer
-use Rattle.book_bundles.specs.declared.previews.Previewed.{Previewed}
-use Rattle.book_bundles.specs.Previews.{line, grantedLine, afterLines, serialThen, serialsFor, stopThen, stopFrom, sizeVerdict}
-use Rattle.book_bundles.specs.Previews.{noPreview, previewUnless, previewed, PreviewPromise, Says, PreviewSays}
+use Rattle.bundles.specs.declared.previews.PreviewAnswer.{PreviewAnswer}
+use Rattle.bundles.specs.declared.previews.PreviewAnswer.the-variants as answer
+use Rattle.bundles.specs.declared.previews.Previewed.{Previewed}
+use Rattle.bundles.specs.Previews.{line, grantedLine, afterLines, serialThen, serialsFor, stopThen, stopFrom, sizeVerdict}
+use Rattle.bundles.specs.Previews.{noPreview, previewUnless, previewed, PreviewPromise, Says, PreviewSays}
 
 -- each line that has a serial is answered by it
 serial-at : (b : Book) (ls : List Line) (i : ℕ) → i < length (serialsFor b ls)
