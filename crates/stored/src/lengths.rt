@@ -3,13 +3,20 @@ use super::forms::Form;
 use super::forms::block_records;
 ghost use mathlib.Core.Path.{_≡_};
 ghost use Prim.Native.Nat.{_≤_};
-ghost use Rattle.stored.specs.Forms.{storedLength};
+ghost use Rattle.stored.specs.Forms.{laterBlocks, storedLength};
 
-// A block, and one more for every begun group of records that fill a block.
+// The blocks behind block 0: one for every begun group of the records that fill a block.
+fn later_blocks(form: Form, count: usize) -> usize
+    requires { ⌜ count ≤ 512 ⌝ }
+    ensures { λ r. ⌜ r ≡ laterBlocks form count ⌝ }
+{
+    let group = block_records(form);
+    (count + (group - 1)) / group
+}
+
 pub fn stored_length(form: Form, count: usize) -> usize
     requires { ⌜ count ≤ 512 ⌝ }
     ensures { λ r. ⌜ r ≡ storedLength form count ⌝ }
 {
-    let group = block_records(form);
-    512 + 512 * ((count + (group - 1)) / group)
+    512 + 512 * later_blocks(form, count)
 }
