@@ -1,4 +1,4 @@
-// Plans and checks.
+// Plans, checks, and the planning program's text.
 use checker::CheckAnswer;
 use checker::check;
 use outcomes::values::put;
