@@ -17,7 +17,6 @@ use book_lines::Aside;
 use book_lines::Command;
 use book_replies::Reply;
 use ring::Refusal;
-use ring::Way;
 use stored::loads::LoadAnswer;
 use stored::loads::load;
 use stored::loads::load_old;

@@ -11,7 +11,6 @@ use book::removals::RemoveAnswer;
 use book::remove;
 use stored::StoreAnswer;
 use stored::stores::store;
-ghost use mathlib.Core.Path.{_≡_};
 ghost use mathlib.Core.List.{[], _∷_};
 ghost use Rattle.book.specs.Books.{Valid};
 ghost use Rattle.outcomes.specs.Outcomes.{Changed};

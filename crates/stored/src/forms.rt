@@ -1,6 +1,6 @@
 // The two stored forms, and what differs between them.
 ghost use mathlib.Core.Path.{_≡_};
-ghost use Prim.Native.Nat.{_<_, _≤_, min};
+ghost use Prim.Native.Nat.{_<_, min};
 ghost use Rattle.stored.specs.Forms.{blockRecords, firstRecord, formMark, longest};
 ghost use Rattle.stored.specs.Reading.{recordPlace};
 

@@ -25,7 +25,7 @@ ghost use Rattle.ring.specs.declared.fates.Fate.the-variants.{Served};
 ghost use Rattle.ring.specs.Fates.{fateNumber};
 ghost use Rattle.ring.specs.Buffers.{written};
 ghost use Rattle.stored.specs.Blocks.{word, blockOf};
-ghost use Rattle.stored.specs.Forms.{recordSize, stateNumber, fieldsBytes, marksBytes, recordBytes, formMark, contents};
+ghost use Rattle.stored.specs.Forms.{recordSize, stateNumber, fieldsBytes, marksBytes, recordBytes, contents};
 ghost use Rattle.stored.specs.Storing.{formAnswer, afterForm, storeAnswer, afterStore, storeOldAnswer, afterStoreOld};
 ghost use Rattle.stored.specs.Internal.Handing.{RecordBlock};
 
