@@ -1,8 +1,8 @@
 /*
- * Calls every function of tarziloen.h, on cases T1, T5 and T7 of the rules, for
- * the desk and for other crews, on a bundle, on files of a book, on the old form
- * and on the refusals of a book in a buffer; prints each answer that is another
- * one.
+ * Calls every function of tarziloen.h, on cases T1, T5 and T7 of the rules, on
+ * twins, for the desk and for other crews, on a bundle, on files of a book, on
+ * the old form and on the refusals of a book in a buffer; prints each answer that
+ * is another one.
  *
  * From the top folder, after `rt staticlib export`:
  *
@@ -62,6 +62,20 @@ static void spare_colour(void)
     expect("numbers 1, 2 and 3", table[0] + table[1] + table[2], 6);
     expect("check", tarziloen_check(3, 2, ends, 6, table, 3, values, 5), 0);
     expect("served", values[0], 3);
+}
+
+static void twins(void)
+{
+    const uint16_t ends[4] = {0, 4, 4, 0};
+    uint16_t table[2] = {9, 9};
+    uint16_t values[5] = {9, 9, 9, 9, 9};
+
+    expect("plan", tarziloen_plan(5, 1, ends, 4, table, 2, values, 5), 0);
+    expect("part", values[3], 1);
+    expect("the older of twins, by the seam", table[0], 2);
+    expect("the other, plain", table[1], 1);
+    expect("check", tarziloen_check(5, 1, ends, 4, table, 2, values, 5), 0);
+    expect("served", values[0], 2);
 }
 
 static void answer(void)
@@ -284,6 +298,7 @@ int main(void)
 {
     plan_and_check();
     spare_colour();
+    twins();
     answer();
     book();
     crews();

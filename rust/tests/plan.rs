@@ -28,6 +28,11 @@ fn plans_whole_and_piece_by_piece() {
         "plan 4 1 2\nchain 1 match 1 pair 2 used pair ceiling 2\n0 P 0\n1 S 0\n"
     );
     assert_eq!(
+        output(b"5 1 2\n0 4\n4 0\n", 64),
+        "plan 5 1 2\nchain 1 match 1 pair 2 used pair ceiling 2\n0 S 0\n1 P 0\n",
+        "twins, the seam way of which is the shorter one"
+    );
+    assert_eq!(
         output(b"4 1 2\n0 2\n1 3\n", 64),
         "plan 4 1 2\nchain 1 match 0 pair 1 used chain ceiling 1\n0 P 0\n1 B\n"
     );

@@ -7,10 +7,12 @@ use reference::pairs::{pair_part, pairs_shown};
 use reference::{best_plan, chain_count, check, requests, Random};
 use ring_planner::{plan, Part};
 
-/// What was seen of a plan: how many requests it serves, how many of them in spare colours, and its ceiling.
+/// What was seen of a plan: how many requests it serves, how many of them in spare colours, how many pairs are twins whose
+/// lower-numbered request goes by the seam, and its ceiling.
 struct Seen {
     served: usize,
     spare: usize,
+    turned: usize,
     ceiling: usize,
 }
 
@@ -45,10 +47,14 @@ fn compare(n: u16, w: u16, ends: &[u16]) -> Seen {
             Part::Chain
         }
     );
-    let mut spare = 0;
+    let (mut spare, mut turned) = (0, 0);
     if got.used == Part::Pair {
         let shown = pairs_shown(pairs.len().min(colours), &table[..m]);
         spare = paired - 2 * shown.len();
+        turned = shown
+            .iter()
+            .filter(|&&(i, j)| list[i] == list[j] && table[i] % 2 == 0)
+            .count();
         assert_eq!(
             &table[..m],
             pair_part(nodes, colours, &list, &shown),
@@ -62,6 +68,7 @@ fn compare(n: u16, w: u16, ends: &[u16]) -> Seen {
     Seen {
         served,
         spare,
+        turned,
         ceiling,
     }
 }
@@ -112,10 +119,12 @@ fn antipodal(m: u64, jitter: u64, random: &mut Random) -> Vec<u16> {
 #[test]
 fn counts_agree_on_many_lists() {
     let mut random = Random::new(1);
-    let (mut lists, mut filled) = (0, 0);
+    let (mut lists, mut filled, mut turned) = (0, 0, 0);
     let mut count = |n: u16, w: u16, ends: &[u16]| {
+        let seen = compare(n, w, ends);
         lists += 1;
-        filled += usize::from(compare(n, w, ends).spare > 0);
+        filled += usize::from(seen.spare > 0);
+        turned += usize::from(seen.turned > 0);
     };
     for round in 0..6000 {
         let n = 3 + random.below(if round % 3 == 0 { 254 } else { 12 });
@@ -147,7 +156,32 @@ fn counts_agree_on_many_lists() {
         count(256, 128, &ends);
         count(256, 3, &ends);
     }
-    println!("{lists} lists planned alike, {filled} of them with spare colours given out");
+    assert!(filled > 0 && turned > 0);
+    println!(
+        "{lists} lists planned alike, {filled} with spare colours given out, {turned} with the older of twins by the seam"
+    );
+}
+
+#[test]
+fn the_older_of_twins_takes_the_shorter_way() {
+    let mut random = Random::new(9);
+    let mut lists = 0;
+    for n in 3..=256u16 {
+        for distance in 1..n {
+            let drawn = random.below((n - distance) as u64) as u16;
+            for a in [0, drawn, n - 1 - distance] {
+                let (b, other) = (a + distance, n - distance);
+                for ends in [[a, b, a, b], [b, a, a, b]] {
+                    let mut table = [0u16; 2];
+                    plan(n, 1, &ends, &mut table).unwrap();
+                    let right = if other < distance { [2, 1] } else { [1, 2] };
+                    assert_eq!(table, right, "n {n} {ends:?}");
+                    lists += 1;
+                }
+            }
+        }
+    }
+    println!("{lists} lists of twins");
 }
 
 /// Compares what is said of the plan for a small list with every plan: whether two thirds are met exactly, and the ceiling.

@@ -9,12 +9,12 @@ use lib.ListN.{length, drop, replicate}
 use Rattle.ring.specs.declared.fates.Fate.the-variants.{Blocked, Served}
 use Rattle.ring.specs.declared.ways.Way.the-variants.{Plain, Seam}
 use Rattle.ring.specs.Requests.{request, requestsOf}
-use Rattle.ring.specs.Ways.{uses, someLink, shareLink}
+use Rattle.ring.specs.Ways.{uses, someLink, shareLink, linkCount}
 use Rattle.ring.specs.Fates.{fateOf, fateNumber}
 use Rattle.ring.specs.Plans.{served, Feasible}
 use Rattle.ring.specs.Chords.{inside, shareEnd, crosses, compatible}
 use Rattle.ring.specs.Matchings.{Pair, pair, IsMaximum}
-use Rattle.ring.specs.Routing.{firstWay, secondWay}
+use Rattle.ring.specs.Routing.{twins, shorterWay, firstWay, secondWay}
 use Rattle.ring.specs.Admission.{ringVerdict, endsVerdict, requestVerdicts, countVerdict, listVerdict, callVerdict}
 use Rattle.ring.proofs.AdmissionLaws.{ring-allowed}
 use Rattle.ring.proofs.Cases.{impossible}
@@ -31,10 +31,8 @@ use Rattle.checker.specs.Check.{firstGround, numberVerdict, numberVerdicts, con
 use Rattle.checker.specs.Check.{tableAnswer, checkAnswer}
 use Rattle.checker.proofs.DecisionLaws.{checker-decides}
 use Rattle.cases.specs.Table.{PlansTo, Plans, line2, endsT1, planT1, threeServed, endsT4, endsT5, TableT5}
+use Rattle.cases.proofs.Pairs.{pairing, single, pair-plans}
 use Rattle.cases.proofs.Sizes.{matching-if, Computed, size, paired, counts-are, chain-is-plan, case-plans, writes}
-
-abbrev pairing : ℕ → ℕ → Pair
-pairing i j = record { first = i; second = j }
 
 -- T1: requests 0 and 1 share an end, and request 3 lies within request 2
 computed-t1 : Computed 8 1 (requestsOf endsT1) planT1 (pairing 0 1 ∷ pairing 2 3 ∷ [])
@@ -85,47 +83,11 @@ plans-t2 =
       written = writes _ (chain-is-plan _ _ _ _ _ computed-t2 P m (omega arith)) refl;
     })
 
-abbrev endsT3 : List ℕ
-endsT3 = 0 ∷ 2 ∷ 2 ∷ 0 ∷ []
-
--- T3: the two requests are one pair, in which the lower-numbered comes first
-computed-t3 : Computed 4 1 (requestsOf endsT3) (Served Plain 0 ∷ Blocked ∷ []) (pairing 0 1 ∷ [])
-unfolding chainPart order pick compatible crosses shareEnd inside xor
-computed-t3 = record {
-  chain = refl;
-  matching = matching-if _ _ refl refl;
-  bound =
-      λ Q m. omega (arith, matching-size (requestsOf endsT3) Q m);
-}
-
--- a matching of one pair
-single : (P : List Pair) → length P ≡ 1 → P ≡ pairing (pair P 0 .first) (pair P 0 .second) ∷ []
-single [] e = absurd (omega arith)
-single (p ∷ []) e = refl
-single (p ∷ q ∷ P) e = absurd (omega arith)
-
-only-pair : (P : List Pair) → IsMaximum (requestsOf endsT3) P → ByLower P → P ≡ pairing 0 1 ∷ []
-only-pair P maximum lower =
-    let one = size _ _ _ _ _ computed-t3 P maximum in
-    let below = maximum .matching .numbers 0 (omega arith) in
-    let first : pair P 0 .first ≡ 0 = omega (arith, lower .lower 0 (omega arith)) in
-    let second : pair P 0 .second ≡ 1 = omega (arith, lower .lower 0 (omega arith)) in
-    single P one ∙ rw (first, second)
-
-fates-t3 : pairPart 4 1 (requestsOf endsT3) (pairing 0 1 ∷ []) ≡ Served Plain 0 ∷ Served Seam 0 ∷ []
-unfolding pairPart pairFates firstWay secondWay inside shareLink someLink uses
-fates-t3 = refl
-
-plan-t3 : (P : List Pair) → IsMaximum (requestsOf endsT3) P → ByLower P
-    → planOf 4 1 (requestsOf endsT3) P ≡ Served Plain 0 ∷ Served Seam 0 ∷ []
-unfolding served
-plan-t3 P m l = plan-pair 4 1 _ P (rw (computed-t3 .chain, paired _ _ _ _ _ computed-t3 P m) (omega arith)) ∙ rw (only-pair P m l) fates-t3
-
-pub plans-t3 : Plans 4 1 endsT3 (line2 1 1 2 part.Pair 2) (Served Plain 0 ∷ Served Seam 0 ∷ [])
-unfolding served ringVerdict countVerdict listVerdict requestVerdicts endsVerdict
-plans-t3 =
-    case-plans refl refl refl
-    (λ P m l. record { counted = counts-are _ _ _ _ _ computed-t3 P m; written = writes _ (plan-t3 P m l) refl })
+-- T3: the two requests are twins, whose ways have as many links
+pub plans-t3 : Plans 4 1 (0 ∷ 2 ∷ 2 ∷ 0 ∷ []) (line2 1 1 2 part.Pair 2) (Served Plain 0 ∷ Served Seam 0 ∷ [])
+unfolding chainPart order pick compatible crosses shareEnd xor served ringVerdict countVerdict listVerdict requestVerdicts endsVerdict
+    pairPart pairFates firstWay secondWay twins shorterWay linkCount inside shareLink someLink uses
+plans-t3 = pair-plans 4 0 2 2 0 refl refl refl refl refl refl
 
 pub numbers-t3 : map fateNumber (Served Plain 0 ∷ Served Seam 0 ∷ []) ≡ 1 ∷ 2 ∷ []
 unfolding fateNumber
@@ -174,7 +136,7 @@ computed-t5 = record {
 -- the numbers, by the pair that is found
 numbers-t5 : (i j : ℕ) → i < j → j < 3 → (before : List ℕ)
     → TableT5 before (map fateNumber (pairPart 3 2 (requestsOf endsT5) (pairing i j ∷ [])) ++ drop 3 before)
-unfolding pairPart pairFates firstWay secondWay inside shareLink someLink uses fateNumber
+unfolding pairPart pairFates firstWay secondWay twins shorterWay linkCount inside shareLink someLink uses fateNumber
 numbers-t5 i zero h k before = absurd (omega arith)
 numbers-t5 zero (suc zero) h k before = inl refl
 numbers-t5 (suc i) (suc zero) h k before = absurd (omega arith)

@@ -2,3 +2,4 @@
 pub mod Crews
 pub mod NewForm
 pub mod Table
+pub mod Twins

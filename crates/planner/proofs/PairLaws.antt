@@ -58,7 +58,7 @@ set-cases (y ∷ l) (suc i) (suc x) a d = ⊎-elim (λ t. inl (ap suc (t .0), t 
 
 -- request x has way u and colour d as the first or as the second of a pair, with the colours counted from c
 data Holds (n : ℕ) (R : List Request) (c : ℕ) (P : List Pair) (x : ℕ) (u : Way) (d : ℕ) : Type 0 where
-  first : (k : ℕ) → k < length P → d ≡ c + k → x ≡ pair P k .first → Served u d ≡ firstFate R (pair P k) d → Holds n R c P x u d
+  first : (k : ℕ) → k < length P → d ≡ c + k → x ≡ pair P k .first → Served u d ≡ firstFate n R (pair P k) d → Holds n R c P x u d
   second : (k : ℕ) → k < length P → d ≡ c + k → x ≡ pair P k .second → Served u d ≡ secondFate n R (pair P k) d → Holds n R c P x u d
 
 paired-length : (n : ℕ) (R : List Request) (c : ℕ) (P : List Pair) (F : List Fate) → length (pairedFrom n R c P F) ≡ length F
@@ -70,19 +70,19 @@ paired-cases : (n : ℕ) (R : List Request) (c : ℕ) (P : List Pair) (F : List 
 paired-cases n R c [] F x u d e = inr e
 paired-cases n R c (p ∷ P) F x u d e =
     ⊎-elim (λ t. inl (later t)) now
-    (paired-cases n R (c + 1) P (set (set F (p .first) (firstFate R p c)) (p .second) (secondFate n R p c)) x u d e)
+    (paired-cases n R (c + 1) P (set (set F (p .first) (firstFate n R p c)) (p .second) (secondFate n R p c)) x u d e)
   where
     later : Holds n R (c + 1) P x u d → Holds n R c (p ∷ P) x u d
     later (first k l q s t) = first (suc k) (omega arith) (omega arith) s t
     later (second k l q s t) = second (suc k) (omega arith) (omega arith) s t
 
-    now : fate (set (set F (p .first) (firstFate R p c)) (p .second) (secondFate n R p c)) x ≡ Served u d
+    now : fate (set (set F (p .first) (firstFate n R p c)) (p .second) (secondFate n R p c)) x ≡ Served u d
         → Holds n R c (p ∷ P) x u d ⊎ (fate F x ≡ Served u d)
     now t =
         ⊎-elim (λ s. let q : c ≡ d = cc in inl (second 0 (omega arith) (omega arith) (s .0) (cc)))
         (λ s. ⊎-elim (λ z. let q : c ≡ d = cc in inl (first 0 (omega arith) (omega arith) (z .0) (cc))) (λ z. inr (cc))
-        (set-cases F (p .first) x (firstFate R p c) Blocked))
-        (set-cases (set F (p .first) (firstFate R p c)) (p .second) x (secondFate n R p c) Blocked)
+        (set-cases F (p .first) x (firstFate n R p c) Blocked))
+        (set-cases (set F (p .first) (firstFate n R p c)) (p .second) x (secondFate n R p c) Blocked)
 
 blocked-at : (m x : ℕ) → fate (replicate m Blocked) x ≡ Blocked
 blocked-at zero x = refl
@@ -109,8 +109,8 @@ module _ (n w : ℕ) (R : List Request) (valid : ValidRequests n R) (P : List Pa
   -- the two of a pair
   routed : (k : ℕ) → k < length coloured → (link : ℕ) → link < n
       → let r = request R (pair coloured k .first) in let s = request R (pair coloured k .second) in
-      (uses (firstWay r s) r link ≡ true → uses (secondWay n r s) s link ≡ false)
-      × (uses (secondWay n r s) s link ≡ true → uses (firstWay r s) r link ≡ false)
+      (uses (firstWay n r s) r link ≡ true → uses (secondWay n r s) s link ≡ false)
+      × (uses (secondWay n r s) s link ≡ true → uses (firstWay n r s) r link ≡ false)
   routed k l link h =
       let part = matching-take R w P matching in
       let numbers = part .numbers k l in
@@ -118,8 +118,8 @@ module _ (n w : ℕ) (R : List Request) (valid : ValidRequests n R) (P : List Pa
       let s = request R (pair coloured k .second) in
       let disjoint = routing-disjoint n r s (valid .ordered _ (numbers .0)) (valid .nodes _ (numbers .0))
       (valid .ordered _ (numbers .1)) (valid .nodes _ (numbers .1)) (part .compatibles k l) in (
-        share-none n (firstWay r s) r (secondWay n r s) s disjoint link h,
-        share-none n (secondWay n r s) s (firstWay r s) r (share-sym n (secondWay n r s) s (firstWay r s) r ∙ disjoint) link h,
+        share-none n (firstWay n r s) r (secondWay n r s) s disjoint link h,
+        share-none n (secondWay n r s) s (firstWay n r s) r (share-sym n (secondWay n r s) s (firstWay n r s) r ∙ disjoint) link h,
       )
 
   pub pair-fates-below : ColoursBelow (colouredPairs w P) (pairFates n w R P)
@@ -163,16 +163,16 @@ paired-serves : (n : ℕ) (R : List Request) (c : ℕ) (P : List Pair) (F : List
     → NoTwice (requestNumbers P) → served (pairedFrom n R c P F) ≡ served F + 2 * length P
 paired-serves n R c [] F free once = omega arith
 paired-serves n R c (p ∷ P) F free once =
-    let one = serve-one F (p .first) c (firstWay (request R (p .first)) (request R (p .second))) (free 0 (omega arith) .0)
+    let one = serve-one F (p .first) c (firstWay n (request R (p .first)) (request R (p .second))) (free 0 (omega arith) .0)
     (free 0 (omega arith) .1) in
     let other : fate F₁ (p .second) ≡ Blocked =
     getD-set-other F (p .first) (p .second) _ Blocked (λ q. once 0 1 (omega arith) (omega arith) (sym q)) ∙ free 1 (omega arith) .1 in
     let two = serve-one F₁ (p .second) c (secondWay n (request R (p .first)) (request R (p .second)))
-    (omega (arith, length-set F (p .first) (firstFate R p c), free 1 (omega arith) .0)) other in
+    (omega (arith, length-set F (p .first) (firstFate n R p c), free 1 (omega arith) .0)) other in
     omega (arith, paired-serves n R (c + 1) P F₂ still (λ i j h k. once (suc (suc i)) (suc (suc j)) (omega arith) (omega arith)))
   where
     F₁ : List Fate
-    F₁ = set F (p .first) (firstFate R p c)
+    F₁ = set F (p .first) (firstFate n R p c)
 
     F₂ : List Fate
     F₂ = set F₁ (p .second) (secondFate n R p c)
@@ -182,7 +182,7 @@ paired-serves n R c (p ∷ P) F free once =
     still j h =
         let x = getD (requestNumbers P) j 0 in
         let before = free (suc (suc j)) (omega arith) in (
-          omega (arith, length-set F (p .first) (firstFate R p c), length-set F₁ (p .second) (secondFate n R p c), before .0),
+          omega (arith, length-set F (p .first) (firstFate n R p c), length-set F₁ (p .second) (secondFate n R p c), before .0),
           getD-set-other F₁ (p .second) x _ Blocked (λ q. once 1 (suc (suc j)) (omega arith) (omega arith) (sym q))
               ∙ (getD-set-other F (p .first) x _ Blocked (λ q. once 0 (suc (suc j)) (omega arith) (omega arith) (sym q)) ∙ before .1),
         )

@@ -16,8 +16,8 @@ pub record ByLower (P : List Pair) : Type 0 where
   pub rising : (j k : ℕ) → j < k → k < length P → pair P j .first < pair P k .first
 
 -- the fate of a pair's first request in colour c: it goes by the way of "the lower-numbered request"
-abbrev pub firstFate : List Request → Pair → ℕ → Fate
-firstFate R p c = Served (firstWay (request R (p .first)) (request R (p .second))) c
+abbrev pub firstFate : ℕ → List Request → Pair → ℕ → Fate
+firstFate n R p c = Served (firstWay n (request R (p .first)) (request R (p .second))) c
 
 -- that of its second: "the other takes its one way that is disjoint from that"
 abbrev pub secondFate : ℕ → List Request → Pair → ℕ → Fate
@@ -26,7 +26,7 @@ secondFate n R p c = Served (secondWay n (request R (p .first)) (request R (p .s
 -- the fates after the pairs have got the colours from c on, one by one, over the fates so far
 abbrev pub pairedFrom : ℕ → List Request → ℕ → List Pair → List Fate → List Fate
 pairedFrom n R c [] F = F
-pairedFrom n R c (p ∷ P) F = pairedFrom n R (c + 1) P (set (set F (p .first) (firstFate R p c)) (p .second) (secondFate n R p c))
+pairedFrom n R c (p ∷ P) F = pairedFrom n R (c + 1) P (set (set F (p .first) (firstFate n R p c)) (p .second) (secondFate n R p c))
 
 -- "The first w of them, or all if fewer, get colours 0, 1 and on": the fates then, with every other request blocked
 unfoldable pub pairFates : ℕ → ℕ → List Request → List Pair → List Fate

@@ -4,27 +4,30 @@ use ring::Request;
 use ring::Ring;
 use ring::Way;
 use ring::fates::fate_number;
+use ring::flags::both;
 use ring::flags::either;
 use ring::numbers::wide;
 use ring::requests::request_at;
 use ring::tables::clear;
 use ring::ways::lies_inside;
+use ring::ways::seam_if;
+use ring::ways::shorter_way;
 use ring::ways::ways_share;
 ghost use mathlib.Core.Path.{_≡_};
 ghost use mathlib.Core.Bool.{_||_};
-ghost use Prim.Native.Nat.{_+_, _<_};
+ghost use Prim.Native.Nat.{_+_, _≤_, _<_};
 ghost use Rattle.ring.specs.Requests.{requestsOf};
 ghost use Rattle.ring.specs.Fates.{fateNumber};
 ghost use Rattle.ring.specs.Chords.{inside};
-ghost use Rattle.ring.specs.Routing.{seamIf, firstWay};
+ghost use Rattle.ring.specs.Routing.{twins, firstWay};
 ghost use Rattle.planner.specs.Internal.Writing.{otherWay, PairFits, withPair, MateFits, colourAfter, tableAfter, Writable};
 ghost use Rattle.planner.specs.Internal.Writing.{pairTable};
 
-// The seam way if the test holds, else the plain way.
-fn seam_if(test: bool) -> Way
-    ensures { λ way. ⌜ way ≡ seamIf test ⌝ }
+// Whether two requests join the same two nodes.
+fn twins(r: Request, s: Request) -> bool
+    ensures { λ t. ⌜ t ≡ twins r s ⌝ }
 {
-    if test { Way::Seam } else { Way::Plain }
+    both(r.a == s.a, r.b == s.b)
 }
 
 // Whether an end of s lies strictly between the ends of r.
@@ -34,10 +37,15 @@ fn end_inside(r: Request, s: Request) -> bool
     either(lies_inside(r, s.a), lies_inside(r, s.b))
 }
 
-// The first of a pair goes plain if no end of the other lies strictly between its ends, else by the seam.
-fn first_way(r: Request, s: Request) -> Way
-    ensures { λ way. ⌜ way ≡ firstWay r s ⌝ }
+// The first of a pair of twins takes the way with fewer links. The first of another pair goes plain if no end of the other lies strictly
+// between its ends, else by the seam.
+fn first_way(n: u16, r: Request, s: Request) -> Way
+    requires { ⌜ (r .a ≤ r .b) × (r .b ≤ n) ⌝ }
+    ensures { λ way. ⌜ way ≡ firstWay n r s ⌝ }
 {
+    if twins(r, s) {
+        return shorter_way(n, r);
+    }
     seam_if(end_inside(r, s))
 }
 
@@ -57,31 +65,32 @@ pub fn served_number(way: Way, colour: u16) -> u16
 }
 
 // Requests i and j get the colour as a pair.
-fn put_pair(ends: &[u16], i: usize, j: usize, colour: u16, table: &mut [u16])
-    requires { ⌜ PairFits (now ends) i j colour (now table) ⌝ }
-    ensures { λ _. ⌜ now (table .exit) ≡ withPair (requestsOf (now (ends .entry))) i j colour (now (table .entry)) ⌝ }
+fn put_pair(n: u16, ends: &[u16], i: usize, j: usize, colour: u16, table: &mut [u16])
+    requires { ⌜ PairFits n (now ends) i j colour (now table) ⌝ }
+    ensures { λ _. ⌜ now (table .exit) ≡ withPair n (requestsOf (now (ends .entry))) i j colour (now (table .entry)) ⌝ }
 {
     let r = request_at(ends, i);
     let s = request_at(ends, j);
-    let first = first_way(r, s);
+    let first = first_way(n, r, s);
     let second = other_way(first, r, s);
     table[i] = served_number(first, colour);
     table[j] = served_number(second, colour);
 }
 
 // Request i with its mate j: a pair, if i is the lower one and there is a colour left. The next colour is given back.
-fn take_pair(ends: &[u16], i: usize, j: usize, colour: u16, w: u16, table: &mut [u16]) -> u16
-    requires { ⌜ MateFits (now ends) i j w (now table) ⌝ }
-    ensures { λ r. ⌜ (r ≡ colourAfter w i j colour)
-        × (now (table .exit) ≡ tableAfter w (requestsOf (now (ends .entry))) i j colour (now (table .entry))) ⌝ }
+fn take_pair(ring: Ring, ends: &[u16], i: usize, j: usize, colour: u16, table: &mut [u16]) -> u16
+    requires { ⌜ MateFits (ring .nodes) (ring .colours) (now ends) i j (now table) ⌝ }
+    ensures { λ r. ⌜ (r ≡ colourAfter (ring .colours) i j colour)
+        × (now (table .exit)
+        ≡ tableAfter (ring .nodes) (ring .colours) (requestsOf (now (ends .entry))) i j colour (now (table .entry))) ⌝ }
 {
     if j <= i {
         return colour;
     }
-    if w <= colour {
+    if ring.colours <= colour {
         return colour;
     }
-    put_pair(ends, i, j, colour, table);
+    put_pair(ring.nodes, ends, i, j, colour, table);
     colour + 1
 }
 
@@ -92,13 +101,12 @@ pub fn write_pairs(ring: Ring, ends: &[u16], mates: &[u16; 512], table: &mut [u1
         ≡ pairTable (ring .nodes) (ring .colours) (requestsOf (now (ends .entry))) (now (mates .entry)) (now (table .entry)) ⌝ }
 {
     let m = ends.len() / 2;
-    let w = ring.colours;
     clear(table, m);
     let mut colour: u16 = 0;
     let mut left = m;
     while 0 < left {
         let i = m - left;
-        colour = take_pair(ends, i, wide(mates[i]), colour, w, table);
+        colour = take_pair(ring, ends, i, wide(mates[i]), colour, table);
         left -= 1;
     }
 }

@@ -1,14 +1,14 @@
 -- What the tests on links and ways say, link by link.
-use Prim.Native.Nat.{ℕ, zero, suc, _-_, _≤_, _<_, min, max}
+use Prim.Native.Nat.{ℕ, zero, suc, _+_, _-_, _≤_, _<_, min, max}
 use mathlib.Core.Path.{_≡_, refl, sym, _∙_}
-use mathlib.Core.Bool.{Bool, true, false, not, _&&_, false≢true}
+use mathlib.Core.Bool.{Bool, true, false, not, cond, _&&_, false≢true}
 use native.Mathlib.Omega.{arith}
 use lib.Dec.{leb}
 use borrow.Author.Tests.{leb-true, ltb-true, le-leb, lt-leb, lt-ltb}
 use Rattle.ring.specs.declared.requests.Request.{Request}
 use Rattle.ring.specs.declared.ways.Way.{Way}
 use Rattle.ring.specs.declared.ways.Way.the-variants.{Plain, Seam}
-use Rattle.ring.specs.Ways.{uses, someLink, shareLink}
+use Rattle.ring.specs.Ways.{uses, someLink, shareLink, linkCount}
 use Rattle.ring.specs.Internal.Sharing.{sharing, SharingMeans}
 use Rattle.ring.proofs.Cases.{yes, no, is, less, not-less, compare, impossible}
 
@@ -193,3 +193,41 @@ sharing-means n Plain r Plain s o h p k = plains n r s h k
 sharing-means n Plain r Seam s o h p k = plain-seam n r s o h
 sharing-means n Seam r Plain s o h p k = plain-seam n s r p k ∙ share-sym n Plain s Seam r
 sharing-means n Seam r Seam s o h p k = sym (seams-share n r s h k)
+
+-- how many links below n a plain way uses, whether its ends are below n or not
+plain-count-below : (n : ℕ) (r : Request) → r .a ≤ r .b → linkCount n Plain r ≡ min (r .b) n - min (r .a) n
+unfolding linkCount
+plain-count-below zero r h = omega arith
+plain-count-below (suc n) r h =
+    let before = plain-count-below n r h in
+    elim (compare n (r .a)) [
+      | less l e ↦
+          let none : _≡_ {A = ℕ} (cond (uses Plain r n) 1 0) 0 = cc (plain-avoids-before r n l) in
+          omega arith
+      | not-less l e ↦ elim (compare n (r .b)) [
+        | less k f ↦
+            let one : _≡_ {A = ℕ} (cond (uses Plain r n) 1 0) 1 = cc (plain-uses r n l k) in
+            omega arith
+        | not-less k f ↦
+            let none : _≡_ {A = ℕ} (cond (uses Plain r n) 1 0) 0 = cc (plain-avoids-behind r n k) in
+            omega arith
+      ]
+    ]
+
+-- every link is one of the plain way or of the seam way
+both-counts : (n : ℕ) (r : Request) → linkCount n Plain r + linkCount n Seam r ≡ n
+unfolding linkCount
+both-counts zero r = refl
+both-counts (suc n) r =
+    let one : cond (uses Plain r n) 1 0 + cond (uses Seam r n) 1 0 ≡ 1 = elim (is (uses Plain r n)) [
+      | yes e ↦ cc (seam-other r n)
+      | no e ↦ cc (seam-other r n)
+    ] in
+    omega (arith, both-counts n r)
+
+-- the numbers of links of the two ways, by the ends of the request
+pub plain-link-count : (n : ℕ) (r : Request) → r .a ≤ r .b → r .b ≤ n → linkCount n Plain r ≡ r .b - r .a
+plain-link-count n r h k = omega (arith, plain-count-below n r h)
+
+pub seam-link-count : (n : ℕ) (r : Request) → r .a ≤ r .b → r .b ≤ n → linkCount n Seam r ≡ n - (r .b - r .a)
+seam-link-count n r h k = omega (arith, plain-link-count n r h k, both-counts n r)

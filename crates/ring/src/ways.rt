@@ -4,11 +4,12 @@ use super::numbers::smaller;
 use super::requests::Request;
 ghost use mathlib.Core.Path.{_≡_};
 ghost use mathlib.Core.Bool.{_&&_};
-ghost use Prim.Native.Nat.{min, max};
+ghost use Prim.Native.Nat.{_≤_, min, max};
 ghost use lib.Dec.{leb, ltb};
 ghost use Rattle.ring.specs.Ways.{within, uses};
 ghost use Rattle.ring.specs.Internal.Sharing.{sharing};
 ghost use Rattle.ring.specs.Chords.{inside};
+ghost use Rattle.ring.specs.Routing.{seamIf, shorterWay};
 
 // The two ways of a request {a, b}: links a to b - 1, or all the others.
 pub enum Way {
@@ -81,4 +82,21 @@ pub fn lies_inside(r: Request, x: u16) -> bool
     ensures { λ t. ⌜ t ≡ inside r x ⌝ }
 {
     r.a < x && x < r.b
+}
+
+// The seam way if the test holds, else the plain way.
+pub fn seam_if(test: bool) -> Way
+    ensures { λ way. ⌜ way ≡ seamIf test ⌝ }
+{
+    if test { Way::Seam } else { Way::Plain }
+}
+
+// The way with fewer links, the plain one on a tie: the plain way has b - a links, the seam way the others of the n.
+pub fn shorter_way(n: u16, r: Request) -> Way
+    requires { ⌜ (r .a ≤ r .b) × (r .b ≤ n) ⌝ }
+    ensures { λ way. ⌜ way ≡ shorterWay n r ⌝ }
+{
+    let plain = r.b - r.a;
+    let seam = n - plain;
+    seam_if(seam < plain)
 }

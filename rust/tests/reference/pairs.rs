@@ -2,6 +2,16 @@
 
 use super::links;
 
+/// Whether the lower-numbered request of a pair goes by the seam: of twins, if it has fewer links that way.
+fn first_by_seam(n: usize, first: (u16, u16), second: (u16, u16)) -> bool {
+    if first == second {
+        let count = |seam| links(n, first, seam).iter().filter(|&&l| l).count();
+        return count(true) < count(false);
+    }
+    let inside = |x| first.0 < x && x < first.1;
+    inside(second.0) || inside(second.1)
+}
+
 /// The fate numbers of the pair part that follows from pairs of requests, given by rising lower number, which comes first.
 pub fn pair_part(
     n: usize,
@@ -12,9 +22,7 @@ pub fn pair_part(
     let mut table = vec![0; requests.len()];
     let number = |colour: usize, seam: bool| (1 + 2 * colour + usize::from(seam)) as u16;
     for (colour, &(i, j)) in pairs.iter().take(w).enumerate() {
-        let (a, b) = requests[i];
-        let (c, d) = requests[j];
-        let by_seam = (a < c && c < b) || (a < d && d < b);
+        let by_seam = first_by_seam(n, requests[i], requests[j]);
         let first = links(n, requests[i], by_seam);
         let disjoint = |&seam: &bool| {
             let second = links(n, requests[j], seam);

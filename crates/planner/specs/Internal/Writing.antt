@@ -22,40 +22,44 @@ abbrev pub otherWay : Way → Request → Request → Way
 otherWay first r s = seamIf (sharing first r Plain s)
 
 -- the table after requests i and j have got colour c as a pair
-abbrev pub withPair : List Request → ℕ → ℕ → ℕ → List ℕ → List ℕ
-withPair R i j c table =
-    set (set table i (fateNumber (Served (firstWay (request R i) (request R j)) c)))
-    j (fateNumber (Served (otherWay (firstWay (request R i) (request R j)) (request R i) (request R j)) c))
+abbrev pub withPair : ℕ → List Request → ℕ → ℕ → ℕ → List ℕ → List ℕ
+withPair n R i j c table =
+    set (set table i (fateNumber (Served (firstWay n (request R i) (request R j)) c)))
+    j (fateNumber (Served (otherWay (firstWay n (request R i) (request R j)) (request R i) (request R j)) c))
 
 -- request i and its mate j are a pair, i the lower one, and colour c is one of the w
 abbrev pub takes : ℕ → ℕ → ℕ → ℕ → Bool
 takes w i j c = ltb i j && ltb c w
 
 -- the table after request i with its mate j
-abbrev pub tableAfter : ℕ → List Request → ℕ → ℕ → ℕ → List ℕ → List ℕ
-tableAfter w R i j c table = cond (takes w i j c) (withPair R i j c table) table
+abbrev pub tableAfter : ℕ → ℕ → List Request → ℕ → ℕ → ℕ → List ℕ → List ℕ
+tableAfter n w R i j c table = cond (takes w i j c) (withPair n R i j c table) table
 
 -- the next colour after it
 abbrev pub colourAfter : ℕ → ℕ → ℕ → ℕ → ℕ
 colourAfter w i j c = cond (takes w i j c) (c + 1) c
 
 -- the table after the requests from i on, whose mates these are
-abbrev pub writtenFrom : ℕ → List Request → ℕ → ℕ → List ℕ → List ℕ → List ℕ
-writtenFrom w R i c [] table = table
-writtenFrom w R i c (j ∷ mates) table = writtenFrom w R (i + 1) (colourAfter w i j c) mates (tableAfter w R i j c table)
+abbrev pub writtenFrom : ℕ → ℕ → List Request → ℕ → ℕ → List ℕ → List ℕ → List ℕ
+writtenFrom n w R i c [] table = table
+writtenFrom n w R i c (j ∷ mates) table = writtenFrom n w R (i + 1) (colourAfter w i j c) mates (tableAfter n w R i j c table)
 
--- two requests of the list with entries in the table, and a colour within the limits
-pub record PairFits (ends : List ℕ) (i j c : ℕ) (table : List ℕ) : Type 0 where
+-- two requests of the list with entries in the table, the first on the n nodes, and a colour within the limits
+pub record PairFits (n : ℕ) (ends : List ℕ) (i j c : ℕ) (table : List ℕ) : Type 0 where
   pub first : 2 * i + 1 < length ends
   pub second : 2 * j + 1 < length ends
+  pub ordered : request (requestsOf ends) i .a ≤ request (requestsOf ends) i .b
+  pub nodes : request (requestsOf ends) i .b ≤ n
   pub room-first : i < length table
   pub room-second : j < length table
   pub colour : c < 128
 
--- a request and its mate, which is a request with an entry too where it is the higher one
-pub record MateFits (ends : List ℕ) (i j w : ℕ) (table : List ℕ) : Type 0 where
+-- a request on the n nodes and its mate, which is a request with an entry too where it is the higher one
+pub record MateFits (n w : ℕ) (ends : List ℕ) (i j : ℕ) (table : List ℕ) : Type 0 where
   pub first : 2 * i + 1 < length ends
   pub second : i < j → 2 * j + 1 < length ends
+  pub ordered : request (requestsOf ends) i .a ≤ request (requestsOf ends) i .b
+  pub nodes : request (requestsOf ends) i .b ≤ n
   pub room-first : i < length table
   pub room-second : i < j → j < length table
   pub colours : w ≤ 128

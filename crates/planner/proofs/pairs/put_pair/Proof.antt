@@ -11,7 +11,9 @@ request-at-requires-2 : tie.Need-request-at-requires-2
 request-at-requires-2 c κs = search needs
 
 first-way-requires : tie.Need-first-way-requires
-first-way-requires c κs = search needs
+first-way-requires c κs =
+    let fits = c .before .before .before .before .pre in
+    rw (c .before .request-at .ensures) (fits .ordered, fits .nodes)
 
 other-way-requires : tie.Need-other-way-requires
 other-way-requires c κs = search needs
@@ -41,7 +43,7 @@ returns : tie.Need-returns
 returns c =
     let b = c .before .before in
     let s = b .before .before .before .before .before .before in
-    pair-written (requestsOf (s .args .ends .now)) (s .args .i) (s .args .j) _ (s .args .table .now) _ _ _ _ _ _
+    pair-written (s .args .n) (requestsOf (s .args .ends .now)) (s .args .i) (s .args .j) _ (s .args .table .now) _ _ _ _ _ _
     (b .before .before .before .request-at .ensures) (b .before .before .request-at2 .ensures)
     (b .before .first-way .ensures) (b .other-way .ensures) (c .before .served-number .ensures) (c .served-number2 .ensures)
 

@@ -8,22 +8,25 @@ use Rattle.planner.proofs.pairs.take_pair.Tie as tie
 returns : tie.Need-returns
 returns c =
     let s = c .before .before .before .args in
-    not-lower (s .w) (requestsOf (s .ends .now)) (s .i) (s .j) (s .colour) (s .table .now) (c .if1 .taken)
+    not-lower (s .ring .nodes) (s .ring .colours) (requestsOf (s .ends .now)) (s .i) (s .j) (s .colour) (s .table .now) (c .if1 .taken)
 
 returns-2 : tie.Need-returns-2
 returns-2 c =
-    let s = c .before .before .before .before .args in
-    no-colour (s .w) (requestsOf (s .ends .now)) (s .i) (s .j) (s .colour) (s .table .now) (c .before .if1 .left) (c .if2 .taken)
+    let s = c .before .before .before .before .before .args in
+    no-colour (s .ring .nodes) (s .ring .colours) (requestsOf (s .ends .now)) (s .i) (s .j) (s .colour) (s .table .now)
+    (c .before .before .if1 .left) (c .if2 .taken)
 
 put-pair-requires : tie.Need-put-pair-requires
 put-pair-requires c κs =
     let tests = c .before in
-    let fits = tests .before .before .before .before .pre in
+    let fits = tests .before .before .before .before .before .pre in
     record {
       first = fits .first;
-      second = fits .second (tests .before .if1 .left);
+      second = fits .second (tests .before .before .if1 .left);
+      ordered = fits .ordered;
+      nodes = fits .nodes;
       room-first = fits .room-first;
-      room-second = fits .room-second (tests .before .if1 .left);
+      room-second = fits .room-second (tests .before .before .if1 .left);
       colour = omega arith;
     }
 
@@ -37,9 +40,9 @@ returns-3 : tie.Need-returns-3
 returns-3 c =
     let b = c .before .before in
     let tests = b .before .before in
-    let s = tests .before .before .before .before .args in
-    both-take (s .w) (requestsOf (s .ends .now)) (s .i) (s .j) (s .colour) (s .table .now) _ (tests .before .if1 .left) (tests .if2 .left)
-    (b .put-pair .ensures)
+    let s = tests .before .before .before .before .before .args in
+    both-take (s .ring .nodes) (s .ring .colours) (requestsOf (s .ends .now)) (s .i) (s .j) (s .colour) (s .table .now) _
+    (tests .before .before .if1 .left) (tests .if2 .left) (b .put-pair .ensures)
 
 pub take-pair-spec : {M : Type 1} → statement M
 take-pair-spec =

@@ -10,14 +10,14 @@ use Rattle.planner.proofs.pairs.write_pairs.Statement.{statement}
 use Rattle.planner.proofs.pairs.write_pairs.Tie as tie
 
 abbrev Inv-loop : tie.InvT-loop
-Inv-loop ends mates table₀ m w colour₀ left₀ table colour left =
+Inv-loop ring ends mates table₀ m colour₀ left₀ table colour left =
     (left ≤ m)
     × (length table ≡ length table₀)
-    × (writtenFrom w (requestsOf ends) (m - left) colour (drop (m - left) (take m mates)) table
-    ≡ writtenFrom w (requestsOf ends) 0 0 (take m mates) table₀)
+    × (writtenFrom (ring .nodes) (ring .colours) (requestsOf ends) (m - left) colour (drop (m - left) (take m mates)) table
+    ≡ writtenFrom (ring .nodes) (ring .colours) (requestsOf ends) 0 0 (take m mates) table₀)
 
 abbrev μ-loop : tie.MeasureT-loop
-μ-loop ends mates table₀ m w colour₀ left₀ table colour left = left
+μ-loop ring ends mates table₀ m colour₀ left₀ table colour left = left
 
 clear-requires : tie.Need-clear-requires Inv-loop μ-loop
 clear-requires c κs = omega arith
@@ -62,9 +62,8 @@ loop-again c =
     let s = c .before .before .before .before .before .before .before .before .before .before .before .before .before .before in
     let m = length (s .args .ends .now) / 2 in
     let next : m - (here .left - 1) ≡ m - here .left + 1 = omega arith in
-    let again = written-again (s .args .ring .colours) (requestsOf (s .args .ends .now)) (m - here .left) (here .colour) m
-    (s .args .mates .now)
-    (here .table) (c .before .before .before .before .wide .result) (c .before .before .take-pair .result) _ _ (omega arith)
+    let again = written-again (s .args .ring .nodes) (s .args .ring .colours) (requestsOf (s .args .ends .now)) (m - here .left)
+    (here .colour) m (s .args .mates .now) (here .table) (c .before .before .before .before .wide .result) (c .before .before .take-pair .result) _ _ (omega arith)
     (c .before .before .before .before .wide .ensures) (c .before .before .take-pair .ensures .0)
     (c .before .before .take-pair .ensures .1) (here .inv .2) in
     (omega arith, again .0 ∙ here .inv .1, rw next (again .1))
@@ -78,8 +77,8 @@ returns c =
     let s = c .before .before .before .before .before .before .before .before in
     let R = requestsOf (s .args .ends .now) in
     let m = length (s .args .ends .now) / 2 in
-    let ended = written-ended (s .args .ring .colours) R (m - here .left) (here .colour) m (s .args .mates .now) (here .table)
-    (omega arith) in
+    let ended = written-ended (s .args .ring .nodes) (s .args .ring .colours) R (m - here .left) (here .colour) m
+    (s .args .mates .now) (here .table) (omega arith) in
     let written = cleared-written (s .args .ring .nodes) (s .args .ring .colours) (s .args .ends .now) (s .args .mates .now)
     (s .args .table .now) (s .pre) _ (c .before .before .before .before .clear .ensures) in
     sym ended ∙ (here .inv .2 ∙ written)
