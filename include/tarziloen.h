@@ -91,7 +91,8 @@ extern "C" {
  * maximum matching, the requests that the pair part serves, the part that the
  * plan is (0 chain, 1 pair), and the ceiling: no feasible plan serves more.
  * Where a pair of the pair part joins the same two nodes, the request with the
- * lower number goes by the way with fewer links, plain on a tie.
+ * lower number goes by the way with fewer links, plain on a tie, and the other
+ * by the opposite way.
  * Refused: 1 to 6.
  */
 uint16_t tarziloen_plan(uint16_t n, uint16_t w,

@@ -21,7 +21,8 @@ pub struct Summary {
 }
 
 /// Plans the requests, two ends each: the fate number of each goes into the first entries of the table. Where a pair of the pair part
-/// joins the same two nodes, the request with the lower number goes by the way with fewer links, plain on a tie.
+/// joins the same two nodes, the request with the lower number goes by the way with fewer links, plain on a tie, and the other by the
+/// opposite way.
 pub fn plan(n: u16, w: u16, ends: &[u16], table: &mut [u16]) -> Result<Summary, Refusal> {
     let (list, given) = (ends.as_ptr(), ends.len());
     let (entries, room) = (table.as_mut_ptr(), table.len());

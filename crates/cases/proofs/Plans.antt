@@ -5,7 +5,7 @@ use mathlib.Core.Bool.{true, xor}
 use mathlib.Core.List.{List, [], _∷_, _++_, map}
 use mathlib.Core.Logic.{inl, inr}
 use native.Mathlib.Omega.{arith}
-use lib.ListN.{length, drop, replicate}
+use lib.ListN.{drop, replicate}
 use Rattle.ring.specs.declared.fates.Fate.the-variants.{Blocked, Served}
 use Rattle.ring.specs.declared.ways.Way.the-variants.{Plain, Seam}
 use Rattle.ring.specs.Requests.{request, requestsOf}

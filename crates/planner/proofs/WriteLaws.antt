@@ -198,7 +198,7 @@ module _ (n w : ℕ) (ends mates start : List ℕ) (writable : Writable n w ends
         first = omega arith;
         second = λ g. omega (arith, second g);
         ordered = omega (arith, writable .valid .ordered i (omega arith));
-        nodes = omega (arith, writable .valid .nodes i (omega arith));
+        links = omega (arith, writable .valid .nodes i (omega arith));
         room-first = omega arith;
         room-second = λ g. omega (arith, second g);
         colours = writable .colours;

@@ -44,22 +44,22 @@ abbrev pub writtenFrom : ℕ → ℕ → List Request → ℕ → ℕ → List �
 writtenFrom n w R i c [] table = table
 writtenFrom n w R i c (j ∷ mates) table = writtenFrom n w R (i + 1) (colourAfter w i j c) mates (tableAfter n w R i j c table)
 
--- two requests of the list with entries in the table, the first on the n nodes, and a colour within the limits
+-- two requests of the list with entries in the table, the plain way of the first within the n links, and a colour within the limits
 pub record PairFits (n : ℕ) (ends : List ℕ) (i j c : ℕ) (table : List ℕ) : Type 0 where
   pub first : 2 * i + 1 < length ends
   pub second : 2 * j + 1 < length ends
   pub ordered : request (requestsOf ends) i .a ≤ request (requestsOf ends) i .b
-  pub nodes : request (requestsOf ends) i .b ≤ n
+  pub links : request (requestsOf ends) i .b ≤ n
   pub room-first : i < length table
   pub room-second : j < length table
   pub colour : c < 128
 
--- a request on the n nodes and its mate, which is a request with an entry too where it is the higher one
+-- a request, its plain way within the n links, and its mate, which is a request with an entry too where it is the higher one
 pub record MateFits (n w : ℕ) (ends : List ℕ) (i j : ℕ) (table : List ℕ) : Type 0 where
   pub first : 2 * i + 1 < length ends
   pub second : i < j → 2 * j + 1 < length ends
   pub ordered : request (requestsOf ends) i .a ≤ request (requestsOf ends) i .b
-  pub nodes : request (requestsOf ends) i .b ≤ n
+  pub links : request (requestsOf ends) i .b ≤ n
   pub room-first : i < length table
   pub room-second : i < j → j < length table
   pub colours : w ≤ 128

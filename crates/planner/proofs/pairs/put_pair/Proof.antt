@@ -13,7 +13,7 @@ request-at-requires-2 c κs = search needs
 first-way-requires : tie.Need-first-way-requires
 first-way-requires c κs =
     let fits = c .before .before .before .before .pre in
-    rw (c .before .request-at .ensures) (fits .ordered, fits .nodes)
+    rw (c .before .request-at .ensures) (fits .ordered, fits .links)
 
 other-way-requires : tie.Need-other-way-requires
 other-way-requires c κs = search needs
