@@ -104,6 +104,34 @@ static int served(unsigned n, unsigned w, const Ends& ends, const uint16_t* tabl
     return count;
 }
 
+// The cents for so many metres, rounded up.
+static uint64_t cents(uint64_t metres, const uint32_t* rates) {
+    uint64_t first = std::min<uint64_t>(metres, 50000), second = std::min<uint64_t>(metres, 200000) - first;
+    return (rates[0] * first + rates[1] * second + rates[2] * (metres - first - second) + 999) / 1000;
+}
+
+// What an order pays, by the lengths of its links.
+static uint64_t charge(const Book& book, unsigned serial, const uint32_t* lengths, const uint32_t* rates) {
+    uint64_t metres = 0;
+    for (const Circuit& c : book.records)
+        if (c.serial == serial && c.state == 0)
+            for (unsigned link = 0; link < book.n; link++)
+                if (uses(c.fate, c.a, c.b, link)) metres += lengths[link];
+    return cents(metres, rates);
+}
+
+// What all live orders pay, by the metres up to each node.
+static uint64_t charge_all(const Book& book, const uint32_t* lengths, const uint32_t* rates) {
+    std::vector<uint64_t> up_to(book.n + 1u);
+    for (unsigned link = 0; link < book.n; link++) up_to[link + 1] = up_to[link] + lengths[link];
+    uint64_t paid = 0;
+    for (const Circuit& c : book.records) {
+        uint64_t plain = up_to[c.b] - up_to[c.a];
+        if (c.state == 0) paid += cents(c.fate % 2 == 1 ? plain : up_to[book.n] - plain, rates);
+    }
+    return paid;
+}
+
 // The least time of many runs, in microseconds.
 template <class Work> static double microseconds(const Work& work) {
     double least = 1e99;
@@ -168,6 +196,23 @@ static void time_questions(size_t circuits) {
     line("load and holder", circuits,
          microseconds([&] { tarziloen_book_holder(stored.data(), stored.size(), 250, 5, 0, values, 4); }),
          microseconds([&] { values[0] = uint16_t(holder(decode(stored), 250, 5)); }));
+}
+
+static void time_charges(size_t circuits) {
+    const Bytes stored = book_of(circuits);
+    std::vector<uint32_t> lengths(256);
+    for (unsigned link = 0; link < 256; link++) lengths[link] = 1 + link * 3917 % 60000;
+    const uint32_t rates[3] = {30, 20, 10};
+    uint16_t some = uint16_t(circuits / 2 + 1);
+    uint64_t ours = 0, plain = 0;
+    line("load and charge", circuits,
+         microseconds([&] { tarziloen_book_charge(stored.data(), stored.size(), some, lengths.data(), 256, rates, 3, &ours); }),
+         microseconds([&] { plain = charge(decode(stored), some, lengths.data(), rates); }));
+    if (ours != plain) std::exit(1);
+    line("load and charge all", circuits,
+         microseconds([&] { tarziloen_book_charge_all(stored.data(), stored.size(), lengths.data(), 256, rates, 3, &ours); }),
+         microseconds([&] { plain = charge_all(decode(stored), lengths.data(), rates); }));
+    if (ours != plain) std::exit(1);
 }
 
 static void time_grant(size_t circuits) {
@@ -270,6 +315,7 @@ int main() {
     std::printf("%-24s %8s %10s %10s %7s\n", "call", "circuits", "ours us", "C++ us", "ratio");
     for (size_t circuits : {size_t(0), size_t(256), size_t(511)}) {
         time_questions(circuits);
+        if (circuits > 0) time_charges(circuits);
         time_grant(circuits);
         if (circuits > 0) time_removal(circuits);
     }

@@ -55,11 +55,15 @@
  *   27  a record that is pending or whose crew is not 0 cannot be converted
  *       back; in tarziloen_book_convert_back
  *   28  the revision is below the lowest; in tarziloen_book_load
+ *   29  not n lengths, or a length that is not 1 to 1,000,000, on the way or
+ *       not; in tarziloen_book_charge and tarziloen_book_charge_all
+ *   30  not three rates, or a rate above 100,000; in the same two
  *
  * A refused call changes neither plan table nor buffer. The values of a call go
  * to the first entries of `values`; where it has fewer, as many as fit are
  * written. A refusal writes no values but these: in tarziloen_plan and
  * tarziloen_check 4, 5 and 7 give the request's number, and 8 both requests.
+ * A refused charge leaves `*cents` as it is.
  */
 #ifndef TARZILOEN_H
 #define TARZILOEN_H
@@ -285,6 +289,35 @@ uint16_t tarziloen_book_convert(const uint8_t *bytes, size_t bytes_length,
 uint16_t tarziloen_book_convert_back(const uint8_t *bytes, size_t bytes_length,
                                      uint8_t *buffer, size_t buffer_length,
                                      uint16_t *values, size_t values_length);
+
+/*
+ * Charges for an order, by the metres of the links that its way uses. A metre
+ * up to 50,000 costs the first rate, one from there to 200,000 the second, and
+ * one beyond the third; the sum is rounded up to a whole cent, once.
+ *
+ * In: `bytes`, the book, no byte more; the serial of the order; `lengths`, the
+ * length of links 0 to n-1 in metres; `rates`, three rates in cents per
+ * kilometre. Out: `*cents`, at most 25,500,000,000.
+ * Refused: 18, 19, 20, then 14, 15 for a removed order, then 29, 30.
+ */
+uint16_t tarziloen_book_charge(const uint8_t *bytes, size_t bytes_length,
+                               uint16_t serial,
+                               const uint32_t *lengths, size_t lengths_length,
+                               const uint32_t *rates, size_t rates_length,
+                               uint64_t *cents);
+
+/*
+ * Charges for all live orders: the sum of what tarziloen_book_charge gives for
+ * each. Pending records pay nothing.
+ *
+ * In: `bytes`, `lengths` and `rates` as there. Out: `*cents`, at most
+ * 13,056,000,000,000.
+ * Refused: 18, 19, 20, then 29, 30.
+ */
+uint16_t tarziloen_book_charge_all(const uint8_t *bytes, size_t bytes_length,
+                                   const uint32_t *lengths, size_t lengths_length,
+                                   const uint32_t *rates, size_t rates_length,
+                                   uint64_t *cents);
 
 #ifdef __cplusplus
 }

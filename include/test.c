@@ -1,8 +1,8 @@
 /*
  * Calls every function of tarziloen.h, on cases T1, T5 and T7 of the rules, on
  * twins, for the desk and for other crews, on a bundle, on files of a book, on
- * the old form and on the refusals of a book in a buffer; prints each answer that
- * is another one.
+ * the old form, on charges and on the refusals of a book in a buffer; prints each
+ * answer that is another one.
  *
  * From the top folder, after `rt staticlib export`:
  *
@@ -268,11 +268,48 @@ static void preview(void)
     expect("the serial of the preview", values[0], 2);
 }
 
+/* The case of the rules: order 1 on link 0 of three, order 2 on the two others. */
+static void charges(void)
+{
+    const uint32_t rates[4] = {30, 20, 10, 0};
+    const uint32_t high[3] = {100000, 100000, 100001};
+    uint32_t lengths[4] = {60000, 30000, 30001, 1};
+    uint8_t buffer[TARZILOEN_BOOK_BYTES] = {0};
+    uint16_t values[2] = {0};
+    uint64_t cents = 7;
+
+    expect("open", tarziloen_book_open(3, 2, buffer, sizeof buffer, values, 2), 0);
+    expect("{0,1} plain", tarziloen_book_grant(buffer, sizeof buffer, 512, 0, 1, 0, 0, 7, values, 2), 0);
+    expect("{0,1} seam", tarziloen_book_grant(buffer, sizeof buffer, 1024, 0, 1, 1, 1, 0, values, 2), 0);
+    expect("charge for 3", tarziloen_book_charge(buffer, 1024, 3, lengths, 2, rates, 2, &cents), 14);
+    expect("two lengths", tarziloen_book_charge(buffer, 1024, 1, lengths, 2, rates, 2, &cents), 29);
+    expect("four lengths", tarziloen_book_charge_all(buffer, 1024, lengths, 4, rates, 2, &cents), 29);
+    expect("two rates", tarziloen_book_charge(buffer, 1024, 1, lengths, 3, rates, 2, &cents), 30);
+    expect("four rates", tarziloen_book_charge_all(buffer, 1024, lengths, 3, rates, 4, &cents), 30);
+    expect("a rate above 100,000", tarziloen_book_charge(buffer, 1024, 1, lengths, 3, high, 3, &cents), 30);
+    expect("untouched cents", cents, 7);
+    expect("charge for 1", tarziloen_book_charge(buffer, 1024, 1, lengths, 3, rates, 3, &cents), 0);
+    expect("60,000 m", cents, 1700);
+    expect("charge for 2", tarziloen_book_charge(buffer, 1024, 2, lengths, 3, rates, 3, &cents), 0);
+    expect("60,001 m", cents, 1701);
+    expect("charge for both", tarziloen_book_charge_all(buffer, 1024, lengths, 3, rates, 3, &cents), 0);
+    expect("together", cents, 3401);
+    lengths[2] = 0;
+    expect("a link of no length", tarziloen_book_charge(buffer, 1024, 1, lengths, 3, rates, 3, &cents), 29);
+    expect("remove 1", tarziloen_book_remove(buffer, sizeof buffer, 1024, 1, values, 2), 0);
+    expect("charge for 1", tarziloen_book_charge(buffer, 1024, 1, lengths, 3, rates, 3, &cents), 15);
+    lengths[2] = 30000;
+    expect("charge for all", tarziloen_book_charge_all(buffer, 1024, lengths, 3, rates, 3, &cents), 0);
+    expect("order 2 alone", cents, 1700);
+}
+
 static void refusals(void)
 {
     const uint16_t lines[3] = {9, 9, 9};
+    const uint32_t none[1] = {0};
     uint8_t buffer[1024] = {7};
     uint16_t values[2] = {0};
+    uint64_t cents = 0;
 
     expect("2 nodes", tarziloen_book_open(2, 1, buffer, sizeof buffer, values, 2), 1);
     expect("129 colours", tarziloen_book_open(4, 129, buffer, sizeof buffer, values, 2), 2);
@@ -286,12 +323,14 @@ static void refusals(void)
     expect("length of no form", tarziloen_book_show(buffer, 511, 1, 1000, values, 2), 18);
     expect("length of no form", tarziloen_book_preview(buffer, 511, lines, 3, values, 2), 18);
     expect("length of no form", tarziloen_book_load(buffer, 511, 9, values, 2), 18);
+    expect("length of no form", tarziloen_book_charge(buffer, 511, 0, none, 0, none, 0, &cents), 18);
     buffer[4] ^= 1;
     expect("changed byte", tarziloen_book_holder(buffer, 512, 0, 0, 1000, values, 2), 19);
     expect("changed byte", tarziloen_book_preview(buffer, 512, lines, 3, values, 2), 19);
     expect("changed byte", tarziloen_book_grant(buffer, sizeof buffer, 512, 0, 0, 2, 9, 1000, values, 2), 19);
     expect("changed byte", tarziloen_book_remove(buffer, sizeof buffer, 512, 0, values, 2), 19);
     expect("changed byte", tarziloen_book_confirm(buffer, sizeof buffer, 512, 0, values, 2), 19);
+    expect("changed byte", tarziloen_book_charge_all(buffer, 512, none, 1, none, 1, &cents), 19);
 }
 
 int main(void)
@@ -305,6 +344,7 @@ int main(void)
     revisions();
     conversions();
     preview();
+    charges();
     refusals();
     printf(failures == 0 ? "ok\n" : "failed\n");
     return failures != 0;

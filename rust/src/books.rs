@@ -174,6 +174,18 @@ impl Book {
             .collect();
         buffers::preview(self.bytes(), &numbers)
     }
+
+    /// What the order of a serial pays for the metres of its way, in cents, rounded up once. There is a length for each link, in
+    /// metres; the rates, in cents per kilometre, are those of the first 50,000 metres, of those on to 200,000, and of those beyond.
+    /// Refused: 14, and 15 for a removed order, then 29 and 30.
+    pub fn charge(&self, serial: u16, lengths: &[u32], rates: [u32; 3]) -> Result<u64, Refusal> {
+        buffers::charge(self.bytes(), serial, lengths, &rates)
+    }
+
+    /// What the live orders pay together: the sum of what each pays. Refused: 29 and 30.
+    pub fn charge_all(&self, lengths: &[u32], rates: [u32; 3]) -> Result<u64, Refusal> {
+        buffers::charge_all(self.bytes(), lengths, &rates)
+    }
 }
 
 impl PartialEq for Book {

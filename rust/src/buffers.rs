@@ -4,7 +4,7 @@
 //! then those of the operation, then 17 for a buffer with no room for the changed book. Bytes past its
 //! stored form stay.
 
-use crate::refusals::{answered, answered_with};
+use crate::refusals::{answered, answered_with, charged};
 use crate::{raw, Circuit, Crew, Holder, Preview, Refusal, Stop, Way};
 
 /// The most values of a preview: the number of serials, a line and its refusal, 16 serials.
@@ -131,5 +131,28 @@ pub fn preview(bytes: &[u8], lines: &[u16]) -> Result<Preview, Refusal> {
                 values: [0, 0],
             },
         }),
+    })
+}
+
+/// What the order of a serial pays, in cents, in the book of a stored form: by the length of each link in metres, and three rates in
+/// cents per kilometre. Refused: 14 and 15 as to the desk, then 29, and 30 for any number of rates but three too.
+pub fn charge(bytes: &[u8], serial: u16, lengths: &[u32], rates: &[u32]) -> Result<u64, Refusal> {
+    let (start, length) = (bytes.as_ptr(), bytes.len());
+    let (links, given) = (lengths.as_ptr(), lengths.len());
+    let (prices, count) = (rates.as_ptr(), rates.len());
+    // SAFETY: as in `load`; `cents` points to a number.
+    charged(|cents| unsafe {
+        raw::tarziloen_book_charge(start, length, serial, links, given, prices, count, cents)
+    })
+}
+
+/// What the live orders in the book of a stored form pay together, in cents: the sum of what each pays.
+pub fn charge_all(bytes: &[u8], lengths: &[u32], rates: &[u32]) -> Result<u64, Refusal> {
+    let (start, length) = (bytes.as_ptr(), bytes.len());
+    let (links, given) = (lengths.as_ptr(), lengths.len());
+    let (prices, count) = (rates.as_ptr(), rates.len());
+    // SAFETY: as in `charge`.
+    charged(|cents| unsafe {
+        raw::tarziloen_book_charge_all(start, length, links, given, prices, count, cents)
     })
 }

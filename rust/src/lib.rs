@@ -14,9 +14,13 @@
 //! assert_eq!(book.holder(1, 0, Crew::DESK)?, Holder::HeldBy(1));
 //! assert_eq!(book.holder(1, 0, Crew(7))?, Holder::Held);
 //! assert_eq!(book.show(1, Crew(7)).unwrap_err().number, 14);
+//! // It pays for the metres of its way: those of links 0 and 1, at three rates in cents per kilometre.
+//! let lengths = [20_000, 40_000, 1_000, 1_000];
+//! assert_eq!(book.charge(1, &lengths, [30, 20, 10])?, 1_700);
 //! // A removed order holds its colour until the pull of its patch is confirmed.
 //! let stored = book.bytes().to_vec();
 //! book.remove(1)?;
+//! assert_eq!(book.charge(1, &lengths, [30, 20, 10]).unwrap_err().number, 15);
 //! assert_eq!(book.holder(1, 0, Crew::DESK)?, Holder::HeldBy(1));
 //! book.confirm(1)?;
 //! assert_eq!(book.holder(1, 0, Crew::DESK)?, Holder::Free);

@@ -105,6 +105,25 @@ extern "C" {
         values: *mut u16,
         values_len: usize,
     ) -> u16;
+    pub fn tarziloen_book_charge(
+        bytes: *const u8,
+        bytes_len: usize,
+        serial: u16,
+        lengths: *const u32,
+        lengths_len: usize,
+        rates: *const u32,
+        rates_len: usize,
+        cents: *mut u64,
+    ) -> u16;
+    pub fn tarziloen_book_charge_all(
+        bytes: *const u8,
+        bytes_len: usize,
+        lengths: *const u32,
+        lengths_len: usize,
+        rates: *const u32,
+        rates_len: usize,
+        cents: *mut u64,
+    ) -> u16;
     pub fn tarziloen_answer(
         text: *const u8,
         text_len: usize,

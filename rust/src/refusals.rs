@@ -45,6 +45,8 @@ impl Refusal {
             26 => "crew above 999",
             27 => "a record that is pending or whose crew is not 0 cannot be converted back",
             28 => "revision too low",
+            29 => "not n lengths, or a length not 1 to 1,000,000",
+            30 => "not three rates, or a rate above 100,000",
             _ => "unknown",
         }
     }
@@ -78,6 +80,18 @@ pub(crate) fn answered_with<const N: usize>(
     }
 }
 
+/// What a charge gives, which writes its cents to the place that it is handed: the cents after result 0, else the refusal.
+pub(crate) fn charged(call: impl FnOnce(*mut u64) -> u16) -> Result<u64, Refusal> {
+    let mut cents = 0;
+    match call(&mut cents) {
+        0 => Ok(cents),
+        number => Err(Refusal {
+            number,
+            values: [0, 0],
+        }),
+    }
+}
+
 #[cfg(test)]
 mod tests {
     use super::Refusal;
@@ -88,10 +102,10 @@ mod tests {
             let values = [0, 0];
             Refusal { number, values }.ground()
         };
-        let mut all: Vec<&str> = (1..=28).map(words).collect();
+        let mut all: Vec<&str> = (1..=30).map(words).collect();
         all.sort();
         all.dedup();
-        assert_eq!(all.len(), 28);
-        assert!(!all.contains(&words(0)) && words(0) == words(29));
+        assert_eq!(all.len(), 30);
+        assert!(!all.contains(&words(0)) && words(0) == words(31));
     }
 }

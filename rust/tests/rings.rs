@@ -216,7 +216,7 @@ fn a_file_may_be_named() {
 fn anything_else_prints_the_usage() {
     let usage = programs::output(&["rings"], b"", 1);
     assert!(usage.starts_with("usage: rings SUBCOMMAND [FILE]"));
-    for word in ["check", "convert", "help"] {
+    for word in ["charges", "check", "convert", "help"] {
         assert!(usage
             .lines()
             .any(|line| line.split(' ').next() == Some(word)));
@@ -229,6 +229,9 @@ fn anything_else_prints_the_usage() {
         &["rings", ""],
         &["rings", &long],
         &["rings", "check", "one", "two"],
+        &["rings", "charges"],
+        &["rings", "charge", "one"],
+        &["rings", "charges", "one", "two"],
         &["rings", "converts"],
         &["rings", "convert", ""],
         &["rings", "convert", "backs"],

@@ -20,6 +20,7 @@ pub mod Granting
 pub mod Validity
 pub mod Standings
 pub mod StandingChanges
+pub mod LiveOrders
 pub mod Holding
 pub mod Serials
 pub mod Agreement

@@ -27,7 +27,7 @@ use Rattle.book.proofs.EveryHistory.{every-history}
 
 -- ---- a valid book has no more live circuits than grants, so that twice the grants less these is not cut off at 0
 
-live-few : (cs : List Circuit) → length (liveIn cs) ≤ length cs
+pub live-few : (cs : List Circuit) → length (liveIn cs) ≤ length cs
 live-few [] = omega arith
 live-few (c ∷ cs) = go (isLive c) (live-few cs)
   where

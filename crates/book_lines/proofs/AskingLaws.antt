@@ -10,7 +10,7 @@ use Rattle.texts.specs.Fields.{space, lineFeed}
 use Rattle.texts.specs.Internal.Positions.{FieldRead}
 use Rattle.texts.specs.declared.fields.FieldAt.{FieldAt}
 use Rattle.texts.specs.declared.fields.FieldAt.the-variants as fieldAt
-use Rattle.texts.proofs.FieldLaws.{field-found, field-lost}
+use Rattle.texts.proofs.FieldLaws.{field-found, field-lost, ended-not, ended-so}
 use Rattle.bundles.specs.declared.bundles.Line.{Line}
 use Rattle.bundles.specs.declared.bundles.Bundle.{Bundle}
 use Rattle.bundles.specs.Internal.Bundles.{Bundled}
@@ -24,7 +24,6 @@ use Rattle.book_lines.specs.declared.asking.AskedAt.the-variants as aske
 use Rattle.book_lines.specs.Lines.{comma, Asked, broken, asked, askedOf, behindComma, linesFrom, bundleOf, onLines}
 use Rattle.book_lines.specs.Lines.{unreadable, grantOf, previewOf}
 use Rattle.book_lines.specs.Internal.Asking.{CrewedRead, askedIn, AskedRead}
-use Rattle.book_lines.proofs.LineLaws.{ended-not, ended-so}
 use Rattle.book_lines.proofs.NumberLaws.{crewed-none, crewed-found, crewed-within}
 
 -- a line of a bundle, from its numbers: one of them is not there, or all are

@@ -15,14 +15,14 @@ use Rattle.texts.specs.declared.fields.FieldAt.the-variants as fieldAt
 use Rattle.texts.specs.declared.fields.LineAt.{LineAt}
 use Rattle.texts.specs.declared.fields.LineAt.the-variants as lineAt
 use Rattle.ring.proofs.ListLaws.{drop-next}
-use Rattle.texts.proofs.FieldLaws.{field-found, field-lost, line-is, line-is-not}
+use Rattle.texts.proofs.FieldLaws.{field-found, field-lost, line-is, line-is-not, ended-not, ended-so}
 use Rattle.book_lines.specs.declared.lines.Command.{Command}
 use Rattle.book_lines.specs.declared.lines.Command.the-variants as command
 use Rattle.book_lines.specs.declared.lines.Aside.the-variants as aside
 use Rattle.book_lines.specs.declared.numbers.Single.the-variants as single
 use Rattle.book_lines.specs.declared.numbers.Pair.{Pair}
 use Rattle.book_lines.specs.declared.numbers.Pair.the-variants as pair
-use Rattle.book_lines.specs.Lines.{starts, ended, singleOf, pairOf, lastOf, onPair, holderOf, unreadable}
+use Rattle.book_lines.specs.Lines.{starts, singleOf, pairOf, lastOf, onPair, holderOf, unreadable}
 use Rattle.book_lines.specs.Lines.{commandIn, squeezed, finished, heard, commandOf}
 
 -- a text shorter than the word does not begin with it
@@ -54,13 +54,6 @@ module _ (word text : List ℕ) (i : ℕ) (h : i < length word) (k : i < length 
 
 pub starts-ended : (word text : List ℕ) (i : ℕ) → length word ≤ i → starts (drop i word) (drop i text) ≡ true
 starts-ended word text i h = rw (drop-of-length-le word h) refl
-
--- something or nothing stands behind a position
-pub ended-not : {A : Type 0} (text : List ℕ) (i : ℕ) (this that : A) → i < length text → ended (drop i text) this that ≡ that
-ended-not text i this that h = rw (drop-next text i 0 h) refl
-
-pub ended-so : {A : Type 0} (text : List ℕ) (i : ℕ) (this that : A) → length text ≤ i → ended (drop i text) this that ≡ this
-ended-so text i this that h = rw (drop-of-length-le text h) refl
 
 -- one number, from what was found
 pub single-lost : {text : List ℕ} {at : ℕ} {r : FieldAt} → FieldRead lineFeed text at r → r ≡ fieldAt.Missing

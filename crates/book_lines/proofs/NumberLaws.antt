@@ -7,13 +7,12 @@ use Rattle.texts.specs.Fields.{space, lineFeed}
 use Rattle.texts.specs.Internal.Positions.{FieldRead}
 use Rattle.texts.specs.declared.fields.FieldAt.{FieldAt}
 use Rattle.texts.specs.declared.fields.FieldAt.the-variants as fieldAt
-use Rattle.texts.proofs.FieldLaws.{field-found, field-lost}
+use Rattle.texts.proofs.FieldLaws.{field-found, field-lost, ended-not, ended-so}
 use Rattle.book_lines.specs.declared.numbers.CrewedAt.{CrewedAt}
 use Rattle.book_lines.specs.declared.numbers.CrewedAt.the-variants as crewedAt
 use Rattle.book_lines.specs.declared.numbers.Pair.the-variants as pair
 use Rattle.book_lines.specs.Lines.{none, crewed, crewedOf, lastOf}
 use Rattle.book_lines.specs.Internal.Asking.{crewedIn, CrewedRead}
-use Rattle.book_lines.proofs.LineLaws.{ended-not, ended-so}
 
 module _ {close : ℕ} {text : List ℕ} {at : ℕ} {r : FieldAt} (s : FieldRead close text at r) where
   -- the number stands alone

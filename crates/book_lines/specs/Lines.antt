@@ -5,7 +5,7 @@ use mathlib.Core.List.{List, [], _∷_, _++_}
 use lib.Dec.{eqb, ltb}
 use lib.ListN.{length, drop, getD}
 use Rattle.ring.specs.Buffers.{sameBytes}
-use Rattle.texts.specs.Fields.{space, lineFeed, field, onField, line, onLine}
+use Rattle.texts.specs.Fields.{space, lineFeed, field, onField, line, onLine, ended}
 use Rattle.bundles.specs.declared.bundles.Line.{Line}
 use Rattle.book.specs.Circuits.{desk}
 use Rattle.book_lines.specs.declared.lines.Command.{Command}
@@ -26,11 +26,6 @@ abbrev pub starts : List ℕ → List ℕ → Bool
 starts [] text = true
 starts (b ∷ word) [] = false
 starts (b ∷ word) (x ∷ text) = eqb b x && starts word text
-
--- this, if nothing stands behind it, or that
-abbrev pub ended : {A : Type 0} → List ℕ → A → A → A
-ended [] this that = this
-ended (b ∷ text) this that = that
 
 -- one number, "closed by a line feed"
 unfoldable pub singleOf : List ℕ → Single

@@ -6,7 +6,7 @@ use Rattle.ring.specs.declared.ways.Way.{Way}
 use Rattle.ring.specs.declared.refusals.Refusal.{Refusal}
 use Rattle.ring.specs.Refusals.{numberOf}
 use Rattle.texts.specs.Bytes.{bytes}
-use Rattle.texts.specs.Decimal.{digits}
+use Rattle.texts.specs.Decimal.{longDecimal}
 use Rattle.texts.specs.Fields.{space, lineFeed}
 use Rattle.texts.specs.Layout.{labelled, wayEnding}
 use Rattle.texts.specs.Grounds.{groundOf}
@@ -32,9 +32,9 @@ oneNumber word n = labelled word n ++ (lineFeed ∷ [])
 unfoldable pub twoNumbers : List ℕ → ℕ → List ℕ → ℕ → List ℕ
 twoNumbers first n second m = labelled first n ++ oneNumber second m
 
--- a revision, which has at most 6 digits: it is twice a number of 16 bits at the most
+-- a revision, which may have more than 16 bits
 unfoldable pub revisionText : ℕ → List ℕ
-revisionText n = bytes "revision " ++ (digits 6 n ++ (lineFeed ∷ []))
+revisionText n = bytes "revision " ++ (longDecimal n ++ (lineFeed ∷ []))
 
 -- the ends of a circuit behind a word, then `P` and its colour, or `S` for the seam way
 unfoldable pub circuitText : List ℕ → ℕ → ℕ → Way → ℕ → List ℕ
@@ -44,10 +44,14 @@ circuitText word a b way colour = labelled word a ++ (labelled (bytes " ") b ++ 
 unfoldable pub orderText : Circuit → List ℕ
 orderText c = labelled (bytes "order ") (c .serial) ++ circuitText (bytes " ") (c .a) (c .b) (c .way) (c .colour)
 
--- the lines of orders, one behind the other
+-- lines of circuits, one behind the other, each as `line` has it
+abbrev pub linesWith : (Circuit → List ℕ) → List Circuit → List ℕ
+linesWith line [] = []
+linesWith line (c ∷ cs) = line c ++ linesWith line cs
+
+-- the lines of orders
 abbrev pub linesOf : List Circuit → List ℕ
-linesOf [] = []
-linesOf (c ∷ cs) = orderText c ++ linesOf cs
+linesOf cs = linesWith orderText cs
 
 -- "a line for each live order by rising serial"
 unfoldable pub ordersText : Book → List ℕ

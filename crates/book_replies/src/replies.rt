@@ -18,6 +18,7 @@ use texts::words::put_labelled;
 use texts::words::put_way;
 use texts::writing::put;
 use texts::writing::put_byte;
+use texts::writing::put_long;
 ghost use mathlib.Core.Path.{_≡_};
 ghost use mathlib.Core.List.{[], _∷_};
 ghost use Prim.Native.Nat.{_+_, _-_, _≤_, min};
@@ -69,16 +70,14 @@ fn put_two(out: &mut [u8], first: &[u8], n: u16, second: &[u8], m: u16) -> usize
     put_one(out, next, second, m)
 }
 
-// The revision of a book, its last digit behind the others.
+// The revision of a book.
 fn put_revision(out: &mut [u8], book: Book) -> usize
     requires { ⌜ 16384 ≤ length (now out) ⌝ }
     ensures { λ next. ⌜ Wrote (now (out .entry)) 0 (revisionText (revision book)) (now (out .exit)) next ⌝ }
 {
-    let n = revision(book);
-    if n < 10 {
-        return put_one(out, 0, b"revision ", n as u16);
-    }
-    put_two(out, b"revision ", (n / 10) as u16, b"", (n % 10) as u16)
+    let next = put(out, 0, b"revision ");
+    let behind = put_long(out, next, revision(book) as u64);
+    put_byte(out, behind, b'\n')
 }
 
 // The ends, way and colour of a circuit behind a word, to the end of the line.

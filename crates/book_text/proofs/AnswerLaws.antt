@@ -30,8 +30,8 @@ use Rattle.book.proofs.Validity.{keeps-valid}
 use Rattle.stored.specs.declared.loads.Loaded.{Loaded}
 use Rattle.stored.specs.declared.loads.LoadAnswer.{LoadAnswer}
 use Rattle.stored.specs.declared.loads.LoadAnswer.the-variants as load
-use Rattle.stored.specs.Loading.{loaded, loadedOld}
-use Rattle.stored.proofs.Promised.{loads-only-forms, loads-only-old-forms}
+use Rattle.stored.specs.Loading.{loadedEither}
+use Rattle.stored.proofs.EitherForm.{either-valid}
 use Rattle.ring.proofs.Cases.{impossible}
 use Rattle.book_lines.specs.declared.lines.Command.{Command}
 use Rattle.book_lines.specs.declared.lines.Command.the-variants as command
@@ -41,7 +41,7 @@ use Rattle.book_text.specs.declared.answers.Contents.{Contents}
 use Rattle.book_replies.specs.declared.replies.Reply.{Reply}
 use Rattle.book_replies.specs.declared.replies.Reply.the-variants as reply
 use Rattle.book_text.specs.declared.answers.Answered.{Answered}
-use Rattle.book_text.specs.Answers.{foundOld, foundIn, contentsIn, ValidContents, openingBy, grantingBy, removingBy, confirmingBy}
+use Rattle.book_text.specs.Answers.{foundBy, contentsIn, ValidContents, openingBy, grantingBy, removingBy, confirmingBy}
 use Rattle.book_text.specs.Answers.{showingBy, holdingBy, openingAnswer, grantAnswer, removeAnswer, confirmAnswer, showReply}
 use Rattle.book_text.specs.Answers.{holderReply, turnedDown, answeredNone, answeredBook, answeredIn, answered}
 
@@ -51,13 +51,9 @@ pub find-none : (present : Bool) (bytes : List ℕ) {o : Opened} → present ≡
 unfolding opened ringVerdict
 find-none present bytes e q = rw (e, q) refl
 
-pub find-some : (present : Bool) (bytes : List ℕ) {l : Loaded} {a : LoadAnswer} → present ≡ true → l ≡ loaded 0 bytes → l .answer ≡ a
-    → foundIn bytes a (l .book) ≡ contentsIn present bytes
+pub find-some : (present : Bool) (bytes : List ℕ) {l : Loaded} {a : LoadAnswer} → present ≡ true → l ≡ loadedEither bytes → l .answer ≡ a
+    → foundBy a (l .book) ≡ contentsIn present bytes
 find-some present bytes e q p = rw (e, ← q, p) refl
-
-pub find-old : (bytes : List ℕ) (r : Refusal) {l : Loaded} {a : LoadAnswer} → l ≡ loadedOld bytes → l .answer ≡ a
-    → foundOld r a (l .book) ≡ foundOld r (loadedOld bytes .answer) (loadedOld bytes .book)
-find-old bytes r q p = rw (← q, p) refl
 
 -- each command, from the book's own answer
 module _ (b : Book) where
@@ -96,15 +92,11 @@ valid-found false bytes e = absurd-state e
   where
     absurd-state : {A : Type 0} → Absent ≡ Sound → A
     absurd-state q = let z : true ≡ false = cc in impossible z
-valid-found true bytes e = go (loaded 0 bytes .answer) refl e
+valid-found true bytes e = go (loadedEither bytes .answer) refl e
   where
-    old : (r : Refusal) (a : LoadAnswer) → loadedOld bytes .answer ≡ a → ValidContents (foundOld r a (loadedOld bytes .book))
-    old r load.Loaded q e = loads-only-old-forms bytes q .valid
-    old r (load.Refused p) q e = let z : true ≡ false = cc in impossible z
-
-    go : (a : LoadAnswer) → loaded 0 bytes .answer ≡ a → ValidContents (foundIn bytes a (loaded 0 bytes .book))
-    go load.Loaded q e = loads-only-forms 0 bytes q .valid
-    go (load.Refused r) q e = old r (loadedOld bytes .answer) refl e
+    go : (a : LoadAnswer) → loadedEither bytes .answer ≡ a → ValidContents (foundBy a (loadedEither bytes .book))
+    go load.Loaded q e = either-valid bytes q
+    go (load.Refused r) q e = let z : true ≡ false = cc in impossible z
 
 -- a preview is replied only about a book that was found
 abbrev previews : Reply → Bool

@@ -3,7 +3,6 @@ use Prim.Native.Nat.{ℕ}
 use mathlib.Core.Path.{_≡_, refl, sym, _∙_, ap}
 use mathlib.Core.Bool.{Bool, true, false, cond}
 use mathlib.Core.List.{List, [], _∷_}
-use native.Mathlib.Omega.{arith}
 use Rattle.ring.specs.declared.refusals.Refusal.{Refusal}
 use Rattle.ring.specs.declared.refusals.Verdict.{Verdict}
 use Rattle.ring.specs.declared.refusals.Verdict.the-variants as verdict
@@ -31,8 +30,8 @@ use Rattle.stored.specs.declared.loads.Loaded.{Loaded}
 use Rattle.stored.specs.declared.loads.LoadAnswer.{LoadAnswer}
 use Rattle.stored.specs.declared.loads.LoadAnswer.the-variants as load
 use Rattle.stored.specs.Forms.{storedForm}
-use Rattle.stored.specs.Loading.{loaded, loadedOld}
-use Rattle.stored.proofs.Promised.{reads-back, one-form}
+use Rattle.stored.specs.Loading.{loadedOld}
+use Rattle.stored.proofs.EitherForm.{either-back, either-old}
 use Rattle.stored.proofs.StoredHistories.{stored-histories}
 use Rattle.book_lines.specs.declared.lines.Command.{Command}
 use Rattle.book_lines.specs.declared.lines.Command.the-variants as command
@@ -43,7 +42,7 @@ use Rattle.book_text.specs.declared.answers.Answered.{Answered}
 use Rattle.book_text.specs.declared.obeying.Need.the-variants.{Writing}
 use Rattle.book_lines.specs.Lines.{commandOf}
 use Rattle.book_text.specs.Needs.{needOf}
-use Rattle.book_text.specs.Answers.{found, foundOld, foundIn, contentsIn, openingBy, grantingBy, removingBy, confirmingBy}
+use Rattle.book_text.specs.Answers.{found, foundBy, contentsIn, openingBy, grantingBy, removingBy, confirmingBy}
 use Rattle.book_text.specs.Answers.{answeredNone, answeredBook, answeredIn, answered}
 use Rattle.book_text.specs.Promises.{File, none, holding, contentsOf, obeyed, fileAfter, OnlyWritingChanges}
 use Rattle.book_text.specs.Histories.{fileAfterAll, called, callsOf, FileHolds, OldFile, LineHistories}
@@ -173,8 +172,8 @@ module _ (o : Book) (calls : List Call) (v : Valid (run o calls)) (line : List �
   pub answers-book : obeyed file line ≡ x
   unfolding answered
   answers-book =
-      ap (λ (l : Loaded). let there = foundIn (storedForm New (run o calls)) (l .answer) (l .book) in
-      answeredIn (there .state) (there .book) (commandOf line)) (reads-back (run o calls) v 0 (omega arith))
+      ap (λ (l : Loaded). let there = foundBy (l .answer) (l .book) in
+      answeredIn (there .state) (there .book) (commandOf line)) (either-back (run o calls) v)
 
   -- and then holds the book of the answer
   pub file-next : fileAfter file line ≡ holding (storedForm New (x .book))
@@ -211,11 +210,7 @@ module _ (bytes : List ℕ) (e : loadedOld bytes .answer ≡ load.Loaded) where
   b = loadedOld bytes .book
 
   old-found : contentsIn true bytes ≡ found b
-  old-found = go (loaded 0 bytes .answer) refl
-    where
-      go : (a : LoadAnswer) → loaded 0 bytes .answer ≡ a → foundIn bytes a (loaded 0 bytes .book) ≡ found b
-      go load.Loaded q = absurd (one-form 0 bytes q e)
-      go (load.Refused r) q = ap (λ (a : LoadAnswer). foundOld r a b) e
+  old-found = ap (λ (l : Loaded). foundBy (l .answer) (l .book)) (either-old bytes e) ∙ ap (λ (a : LoadAnswer). foundBy a b) e
 
   old-answers : (line : List ℕ) → obeyed (holding bytes) line ≡ answeredBook b (commandOf line)
   unfolding answered

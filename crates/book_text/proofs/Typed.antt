@@ -18,7 +18,7 @@ use Rattle.book.proofs.Validity.{keeps-valid}
 use Rattle.stored.specs.declared.forms.Form.the-variants.{New}
 use Rattle.stored.specs.Forms.{storedForm}
 use Rattle.texts.specs.Bytes.{bytes}
-use Rattle.texts.specs.Decimal.{decimal}
+use Rattle.texts.specs.Decimal.{decimal, longDecimal}
 use Rattle.texts.specs.Fields.{field, line}
 use Rattle.texts.specs.Layout.{labelled}
 use Rattle.book_lines.specs.declared.lines.Command.the-variants as command
@@ -84,7 +84,7 @@ computed : lineAnswer none first ++ spoken (opened 4 1 .book) behind
 unfolding opened ringVerdict endsVerdict granted grantVerdict argumentVerdict roomVerdict colourHeld heldOnWay heldIn someCircuit holds uses
     someLink crewVerdict removed confirmed lookup lookupIn missing absent neverGiven shown shownTo revision field line singleOf pairOf
     crewedOf lastOf askedOf openOf grantOf removeOf confirmOf showOf commandWithNumbers commandIn squeezed finished heard commandOf
-    answered decimal labelled oneNumber twoNumbers revisionText refusedText
+    answered decimal longDecimal labelled oneNumber twoNumbers revisionText refusedText
 computed = refl
 
 pub typed-t7 : TypedT7

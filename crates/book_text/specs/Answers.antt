@@ -4,7 +4,6 @@ use mathlib.Core.Path.{_≡_}
 use mathlib.Core.Bool.{Bool, true, false}
 use mathlib.Core.List.{List, []}
 use lib.ListN.{length}
-use Rattle.ring.specs.declared.refusals.Refusal.{Refusal}
 use Rattle.book.specs.declared.books.Book.{Book}
 use Rattle.book.specs.declared.books.OpenAnswer.{OpenAnswer}
 use Rattle.book.specs.declared.books.OpenAnswer.the-variants as opening
@@ -26,7 +25,7 @@ use Rattle.book.specs.Orders.{shownTo}
 use Rattle.book.specs.Holders.{heldFor}
 use Rattle.stored.specs.declared.loads.LoadAnswer.{LoadAnswer}
 use Rattle.stored.specs.declared.loads.LoadAnswer.the-variants as load
-use Rattle.stored.specs.Loading.{loaded, loadedOld}
+use Rattle.stored.specs.Loading.{loadedEither}
 use Rattle.book_lines.specs.declared.lines.Command.{Command}
 use Rattle.book_lines.specs.declared.lines.Command.the-variants as command
 use Rattle.book_text.specs.declared.answers.State.{State}
@@ -42,20 +41,15 @@ use Rattle.book_text.specs.declared.answers.Answered.{Answered}
 abbrev pub found : Book → Contents
 found b = record { state = Sound; book = b }
 
--- bytes that this refusal says are no new form, by what the load of the old form answers: if that refuses too, the refusal stays
-abbrev pub foundOld : Refusal → LoadAnswer → Book → Contents
-foundOld r load.Loaded b = found b
-foundOld r (load.Refused q) b = record { state = Broken r; book = b }
+-- a file's bytes, by what their load answers
+abbrev pub foundBy : LoadAnswer → Book → Contents
+foundBy load.Loaded b = found b
+foundBy (load.Refused r) b = record { state = Broken r; book = b }
 
--- bytes, by what the load of the new form answers: those that it refuses are read as the old form
-abbrev pub foundIn : List ℕ → LoadAnswer → Book → Contents
-foundIn bytes load.Loaded b = found b
-foundIn bytes (load.Refused r) b = foundOld r (loadedOld bytes .answer) (loadedOld bytes .book)
-
--- what a file holds, read with lowest revision 0; without a book, a book of no nodes stands for it
+-- what a file holds, in either form; without a book, a book of no nodes stands for it
 abbrev pub contentsIn : Bool → List ℕ → Contents
 contentsIn false bytes = record { state = Absent; book = bookOf 0 0 0 [] }
-contentsIn true bytes = foundIn bytes (loaded 0 bytes .answer) (loaded 0 bytes .book)
+contentsIn true bytes = foundBy (loadedEither bytes .answer) (loadedEither bytes .book)
 
 -- the book, if there is one, is a valid one
 abbrev pub ValidContents : Contents → Type 0

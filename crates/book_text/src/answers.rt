@@ -18,12 +18,10 @@ use book_lines::Command;
 use book_replies::Reply;
 use ring::Refusal;
 use stored::loads::LoadAnswer;
-use stored::loads::load;
-use stored::loads::load_old;
+use stored::loads::load_either;
 ghost use mathlib.Core.Path.{_≡_};
 ghost use Rattle.book.specs.Books.{Valid};
-ghost use Rattle.stored.specs.Loading.{loadedOld};
-ghost use Rattle.book_text.specs.Answers.{found, foundOld, contentsIn, ValidContents, only, replacing};
+ghost use Rattle.book_text.specs.Answers.{found, contentsIn, ValidContents, only, replacing};
 ghost use Rattle.book_text.specs.Answers.{openingAnswer, grantAnswer, removeAnswer, confirmAnswer, showReply, holderReply};
 ghost use Rattle.book_text.specs.Answers.{turnedDown, answeredNone, answeredBook, answered};
 
@@ -57,23 +55,7 @@ fn found(book: Book) -> Contents
     }
 }
 
-// What bytes that are no new form hold: a book in the old form, or no book, and then the refusal is that of the new form.
-fn find_old(bytes: &[u8], refusal: Refusal) -> Contents
-    ensures { λ r. ⌜ r ≡ foundOld refusal (loadedOld (now (bytes .entry)) .answer) (loadedOld (now (bytes .entry)) .book) ⌝ }
-{
-    let loaded = load_old(bytes);
-    let answer = loaded.answer;
-    let book = loaded.book;
-    match answer {
-        LoadAnswer::Loaded => found(book),
-        LoadAnswer::Refused(_) => Contents {
-            state: State::Broken(refusal),
-            book: book,
-        },
-    }
-}
-
-// What the bytes of a file hold, if there is one: a book in the new form, or else what they hold in the old one.
+// What the bytes of a file hold, if there is one: a book in either form.
 pub fn find(present: bool, bytes: &[u8]) -> Contents
     ensures { λ r. ⌜ r ≡ contentsIn present (now (bytes .entry)) ⌝ }
 {
@@ -85,12 +67,15 @@ pub fn find(present: bool, bytes: &[u8]) -> Contents
             book: blank,
         };
     }
-    let loaded = load(bytes, 0);
+    let loaded = load_either(bytes);
     let answer = loaded.answer;
     let book = loaded.book;
     match answer {
         LoadAnswer::Loaded => found(book),
-        LoadAnswer::Refused(refusal) => find_old(bytes, refusal),
+        LoadAnswer::Refused(refusal) => Contents {
+            state: State::Broken(refusal),
+            book: book,
+        },
     }
 }
 

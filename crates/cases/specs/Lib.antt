@@ -1,4 +1,5 @@
 -- The cases of the rules that are proved.
+pub mod Charges
 pub mod Crews
 pub mod NewForm
 pub mod Table

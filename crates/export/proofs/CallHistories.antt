@@ -16,6 +16,7 @@ use Rattle.book.specs.Books.{Valid, bookOf, openUnless, opened, openInNumbers}
 use Rattle.book.specs.Grants.{circuitOf, grantVerdict, grantUnless, granted, grantInNumbers}
 use Rattle.book.specs.Orders.{shownTo, showInNumbers}
 use Rattle.bundles.specs.Previews.{previewedAll, previewInNumbers}
+use Rattle.charges.specs.Charges.{charged, bookCharged}
 use Rattle.book.specs.Removals.{removed, removeInNumbers}
 use Rattle.book.specs.Confirmations.{confirmed, confirmInNumbers}
 use Rattle.book.specs.Holders.{heldFor, holderInNumbers}
@@ -37,6 +38,7 @@ use Rattle.outcomes.specs.Changes.{refusing, storing, changing, grantOn, remove
 use Rattle.export.specs.BookCalls.{front, openCall, grantCall}
 use Rattle.outcomes.specs.Entries.{linesOfEntries, halves}
 use Rattle.export.specs.BookCalls.{removeCall, confirmCall, showCall, holderCall, previewCall, loadCall}
+use Rattle.export.specs.BookCalls.{chargeBehind, chargeCall, chargeAllCall}
 use Rattle.export.specs.Histories.{Kept, keptBy, answerOf, keptAfter, keptRun, unstored, storedCalls, openedIn, CallHistories}
 use Rattle.export.proofs.Keeping.{Holds, held-valid, changed-held, asked-loaded, bookAfter, Stores, no-room, whole, stores}
 use Rattle.export.proofs.Keeping.{whole-holds, storing-holds, refusing-holds}
@@ -136,7 +138,7 @@ opens-book n w buffer = go (ringVerdict n w) refl
         absurd (omega (arith, line-of r refl .0, ap (λ (o : Outcome). o .answer .number) o))
 
 pub call-histories : CallHistories
-unfolding grantCall removeCall confirmCall showCall holderCall previewCall loadCall
+unfolding grantCall removeCall confirmCall showCall holderCall previewCall loadCall chargeCall chargeAllCall
 call-histories n w buffer accepted calls =
     let opens = opens-book n w buffer accepted in
     let kept = keptRun (openedIn n w buffer) calls in
@@ -160,6 +162,9 @@ call-histories n w buffer accepted calls =
       shows = λ serial crew. asked-loaded 0 bytes b held (λ (d : Book). showInNumbers (shownTo crew d serial));
       holders = λ link colour crew. asked-loaded 0 bytes b held (λ (d : Book). holderInNumbers (heldFor crew d link colour));
       previews = λ entries. asked-loaded 0 bytes b held (λ (d : Book). previewInNumbers (previewedAll d (linesOfEntries entries)));
+      charges = λ serial lengths rates.
+          ap (λ (l : Loaded). chargeBehind (l .answer) (charged (l .book) serial lengths rates)) held;
+      book-charges = λ lengths rates. ap (λ (l : Loaded). chargeBehind (l .answer) (bookCharged (l .book) lengths rates)) held;
       loads = λ lowest h. asked-loaded lowest bytes b (stored .loads lowest h) (λ (d : Book). gives (halves (revision d)));
       too-low = λ lowest h.
           let low = ap (loaded lowest) form ∙ stored-loads b (stored .after .valid) lowest ∙ sym (recent-low b lowest h) in

@@ -12,6 +12,7 @@ use Rattle.book.specs.declared.books.OpenAnswer.{OpenAnswer}
 use Rattle.book.specs.declared.books.OpenAnswer.the-variants as opening
 use Rattle.book.specs.declared.books.Opened.{Opened}
 use Rattle.book.specs.Books.{Valid, opened, openInNumbers}
+use Rattle.charges.specs.declared.charges.ChargeAnswer.{ChargeAnswer}
 use Rattle.stored.specs.declared.loads.LoadAnswer.{LoadAnswer}
 use Rattle.stored.specs.declared.loads.LoadAnswer.the-variants as load
 use Rattle.stored.specs.declared.loads.Loaded.{Loaded}
@@ -20,7 +21,7 @@ use Rattle.stored.proofs.Promised.{loads-only-forms}
 use Rattle.outcomes.specs.Outcomes.{Outcome, onSuccess}
 use Rattle.outcomes.specs.Changes.{refusing, storing, changing}
 use Rattle.outcomes.proofs.OutcomeLaws.{on-refusal, by-answer}
-use Rattle.export.specs.BookCalls.{front, loadedThen, askedOf, openCall}
+use Rattle.export.specs.BookCalls.{front, loadedThen, askedOf, openCall, chargeBehind}
 
 pub by-open : (n w : ℕ) (buffer : List ℕ) {o : Opened} {a : OpenAnswer} → o ≡ opened n w → o .answer ≡ a
     → changing (openInNumbers a) (o .book) buffer ≡ openCall n w buffer
@@ -38,6 +39,10 @@ pub by-asking : (lowest : ℕ) (bytes : List ℕ) (f : Book → InNumbers) {l : 
     → onSuccess (loadInNumbers a) (f (l .book)) (loadInNumbers a) ≡ askedOf lowest bytes f
 by-asking lowest bytes f =
     by-answer (λ (l : Loaded). l .answer) (λ (a : LoadAnswer) (l : Loaded). onSuccess (loadInNumbers a) (f (l .book)) (loadInNumbers a))
+
+pub by-charging : (bytes : List ℕ) (f : Book → ChargeAnswer) {l : Loaded} {a : LoadAnswer} → l ≡ loaded 0 bytes → l .answer ≡ a
+    → chargeBehind a (f (l .book)) ≡ chargeBehind (loaded 0 bytes .answer) (f (loaded 0 bytes .book))
+by-charging bytes f = by-answer (λ (l : Loaded). l .answer) (λ (a : LoadAnswer) (l : Loaded). chargeBehind a (f (l .book)))
 
 -- the same where the step refuses: the call ends with it
 module _ (r : Refusal) where

@@ -11,6 +11,11 @@ use Rattle.bundles.specs.Previews.{previewedAll, previewInNumbers}
 use Rattle.book.specs.Orders.{shownTo, showInNumbers}
 use Rattle.book.specs.Holders.{heldFor, holderInNumbers}
 use Rattle.book.specs.Revisions.{revision}
+use Rattle.charges.specs.declared.charges.ChargeAnswer.{ChargeAnswer}
+use Rattle.charges.specs.declared.charges.ChargeAnswer.the-variants as charge
+use Rattle.charges.specs.Charges.{charged, bookCharged}
+use Rattle.stored.specs.declared.loads.LoadAnswer.{LoadAnswer}
+use Rattle.stored.specs.declared.loads.LoadAnswer.the-variants as load
 use Rattle.stored.specs.Storing.{storeInNumbers}
 use Rattle.stored.specs.Loading.{loaded, loadInNumbers}
 use Rattle.stored.specs.Converting.{convertAnswer, afterConvert, backAnswer, afterBack}
@@ -74,3 +79,16 @@ convertBackCall bytes buffer = record { answer = storeInNumbers (backAnswer byte
 -- load, preview: how many serials, the line and the number of its refusal or 65,535 and 0, the serials
 unfoldable pub previewCall : List ℕ → List ℕ → InNumbers
 previewCall bytes entries = askedOf 0 bytes (λ (b : Book). previewInNumbers (previewedAll b (linesOfEntries entries)))
+
+-- 18, 19 or 20, or the charge by the book that was loaded
+abbrev pub chargeBehind : LoadAnswer → ChargeAnswer → ChargeAnswer
+chargeBehind load.Loaded answer = answer
+chargeBehind (load.Refused r) answer = charge.Refused r
+
+-- load, charge for an order: the cents
+unfoldable pub chargeCall : List ℕ → ℕ → List ℕ → List ℕ → ChargeAnswer
+chargeCall bytes serial lengths rates = chargeBehind (loaded 0 bytes .answer) (charged (loaded 0 bytes .book) serial lengths rates)
+
+-- load, charge for the live orders together: the cents
+unfoldable pub chargeAllCall : List ℕ → List ℕ → List ℕ → ChargeAnswer
+chargeAllCall bytes lengths rates = chargeBehind (loaded 0 bytes .answer) (bookCharged (loaded 0 bytes .book) lengths rates)

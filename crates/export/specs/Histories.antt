@@ -12,6 +12,7 @@ use Rattle.book.specs.Orders.{shownTo, showInNumbers}
 use Rattle.bundles.specs.Previews.{previewedAll, previewInNumbers}
 use Rattle.book.specs.Holders.{heldFor, holderInNumbers}
 use Rattle.book.specs.Revisions.{revision}
+use Rattle.charges.specs.Charges.{charged, bookCharged}
 use Rattle.book.specs.History.{Call, Grant, Remove, Confirm, Show, Holder, run}
 use Rattle.stored.specs.declared.loads.LoadAnswer.the-variants as load
 use Rattle.stored.specs.Loading.{loaded}
@@ -21,6 +22,7 @@ use Rattle.outcomes.specs.Changes.{grantOn, removeOn, confirmOn}
 use Rattle.export.specs.BookCalls.{front, openCall, grantCall, removeCall, confirmCall}
 use Rattle.outcomes.specs.Entries.{linesOfEntries, halves}
 use Rattle.export.specs.BookCalls.{showCall, holderCall, previewCall, loadCall, convertCall, convertBackCall}
+use Rattle.export.specs.BookCalls.{chargeCall, chargeAllCall}
 
 -- a change whose result is not 0 leaves the buffer as it is
 pub record RefusedLeaves : Type 0 where
@@ -99,6 +101,10 @@ pub record KeptAfter (n w : ℕ) (calls : List Call) (kept : Kept) : Type 0 wher
   pub previews : (entries : List ℕ)
       → previewCall (front (kept .size) (kept .buffer)) entries
       ≡ previewInNumbers (previewedAll (run (opened n w .book) calls) (linesOfEntries entries))
+  pub charges : (serial : ℕ) (lengths rates : List ℕ)
+      → chargeCall (front (kept .size) (kept .buffer)) serial lengths rates ≡ charged (run (opened n w .book) calls) serial lengths rates
+  pub book-charges : (lengths rates : List ℕ)
+      → chargeAllCall (front (kept .size) (kept .buffer)) lengths rates ≡ bookCharged (run (opened n w .book) calls) lengths rates
   pub loads : (lowest : ℕ) → lowest ≤ revision (run (opened n w .book) calls)
       → loadCall (front (kept .size) (kept .buffer)) lowest ≡ gives (halves (revision (run (opened n w .book) calls)))
   pub too-low : (lowest : ℕ) → revision (run (opened n w .book) calls) < lowest

@@ -25,6 +25,7 @@ use Rattle.book.specs.declared.confirmations.Confirmed.{Confirmed}
 use Rattle.book.specs.Grants.{granted, grantInNumbers}
 use Rattle.book.specs.Removals.{removed, removeInNumbers}
 use Rattle.book.specs.Confirmations.{confirmed, confirmInNumbers}
+use Rattle.charges.specs.declared.charges.ChargeAnswer.{ChargeAnswer}
 use Rattle.stored.specs.declared.forms.Form.{Form}
 use Rattle.stored.specs.declared.forms.Form.the-variants.{New}
 use Rattle.stored.specs.declared.stores.StoreAnswer.{StoreAnswer}
@@ -32,6 +33,7 @@ use Rattle.stored.specs.declared.stores.StoreAnswer.the-variants as store
 use Rattle.stored.specs.Forms.{storedForm}
 use Rattle.stored.specs.Storing.{lengthOf, formAnswer, afterForm, storeAnswer, afterStore, storeInNumbers}
 use Rattle.outcomes.specs.Outcomes.{Outcome, putFrom, Answered, Changed, onSuccess}
+use Rattle.outcomes.specs.Cents.{CentsGiven}
 use Rattle.outcomes.specs.Changes.{refusing, storing, changing, grantOn, removeOn, confirmOn}
 
 -- no refusal has the number of success
@@ -50,6 +52,9 @@ pub changed-as : {p o : Outcome} {buffer-after values values-after : List ℕ} {
     → Changed p buffer-after values values-after result → Changed o buffer-after values values-after result
 changed-as {p} {o} {buffer-after} {values} {values-after} {result} e =
     subst (λ (q : Outcome). Changed q buffer-after values values-after result) e
+
+pub cents-as : {p q : ChargeAnswer} {before after result : ℕ} → p ≡ q → CentsGiven p before after result → CentsGiven q before after result
+cents-as {p} {q} {before} {after} {result} e = subst (λ (a : ChargeAnswer). CentsGiven a before after result) e
 
 -- a refused change has left the buffer
 pub refused-change : (r : Refusal) {o : Outcome} {buffer values values-after : List ℕ} {result : ℕ} → refusing (refuses r) buffer ≡ o

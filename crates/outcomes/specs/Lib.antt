@@ -2,3 +2,4 @@
 pub mod Outcomes
 pub mod Changes
 pub mod Entries
+pub mod Cents

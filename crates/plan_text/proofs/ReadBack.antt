@@ -59,14 +59,14 @@ text-read n w m ends hn hw hm e s = rw (heading-read n w m (linesText ends []) h
 
 -- the first line's numbers have 16 bits
 heading-small : (text : List ℕ) {n w m : ℕ} {lines : List ℕ} → heading text ≡ numbers n w m lines → (n < 65536) × (w < 65536) × (m < 65536)
-unfolding heading field
+unfolding heading
 heading-small text {n} {w} {m} {lines} e = first (field space text) refl e
   where
     third : (a b : ℕ) (rest : List ℕ) → a < 65536 → b < 65536 → (f : Field) → field lineFeed rest ≡ f
         → onField f none (λ c lines. numbers a b c lines) ≡ numbers n w m lines → (n < 65536) × (w < 65536) × (m < 65536)
     third a b rest h l missing q e = let z : _≡_ {A = ℕ} 0 1 = cc in absurd (omega arith)
     third a b rest h l (found c last) q e =
-        let small = field-small lineFeed 0 0 rest q in
+        let small = field-small lineFeed rest q in
         let one : a ≡ n = cc in
         let other : b ≡ w = cc in
         let count : c ≡ m = cc in
@@ -76,7 +76,7 @@ heading-small text {n} {w} {m} {lines} e = first (field space text) refl e
         → onField f none (λ b rest. onField (field lineFeed rest) none (λ c lines. numbers a b c lines)) ≡ numbers n w m lines
         → (n < 65536) × (w < 65536) × (m < 65536)
     second a behind h missing q e = let z : _≡_ {A = ℕ} 0 1 = cc in absurd (omega arith)
-    second a behind h (found b rest) q e = third a b rest h (field-small space 0 0 behind q) (field lineFeed rest) refl e
+    second a behind h (found b rest) q e = third a b rest h (field-small space behind q) (field lineFeed rest) refl e
 
     first : (f : Field) → field space text ≡ f
         → onField f none (λ a behind.
@@ -84,7 +84,7 @@ heading-small text {n} {w} {m} {lines} e = first (field space text) refl e
         ≡ numbers n w m lines
         → (n < 65536) × (w < 65536) × (m < 65536)
     first missing q e = let z : _≡_ {A = ℕ} 0 1 = cc in absurd (omega arith)
-    first (found a behind) q e = second a behind (field-small space 0 0 text q) (field space behind) refl e
+    first (found a behind) q e = second a behind (field-small space text q) (field space behind) refl e
 
 -- the ends that are read are two for each line, and have 16 bits
 ends-snoc : {ends : List ℕ} {x y : ℕ} → Ends ends → x < 65536 → y < 65536 → Ends (ends ++ (x ∷ y ∷ []))

@@ -8,7 +8,7 @@ use Rattle.ring.specs.declared.refusals.Refusal.the-variants.{WayNumber,
 use Rattle.ring.specs.declared.refusals.Refusal.the-variants.{SerialNeverGiven, SerialRemoved, LinkNumber, BufferShort, StoredLength}
 use Rattle.ring.specs.declared.refusals.Refusal.the-variants.{BlockCheck, StoredForm, TextForm, LineCount, SerialLive}
 use Rattle.ring.specs.declared.refusals.Refusal.the-variants.{SerialConfirmed, MarkedRecord, CrewNumber, MarkedConversion}
-use Rattle.ring.specs.declared.refusals.Refusal.the-variants.{RevisionLow}
+use Rattle.ring.specs.declared.refusals.Refusal.the-variants.{RevisionLow, LinkLengths, ChargeRates}
 use Rattle.ring.specs.declared.refusals.Verdict.{Verdict}
 use Rattle.ring.specs.declared.refusals.Verdict.the-variants.{Allowed, Refused}
 use Rattle.ring.specs.declared.refusals.Carried.{Carried}
@@ -46,6 +46,8 @@ numberOf MarkedRecord = 25
 numberOf CrewNumber = 26
 numberOf MarkedConversion = 27
 numberOf RevisionLow = 28
+numberOf LinkLengths = 29
+numberOf ChargeRates = 30
 
 -- "In plan and check, 4, 5 and 7 carry the request number, 8 both, the others none."
 abbrev pub carriedBy : Refusal → Carried
@@ -79,6 +81,8 @@ carriedBy MarkedRecord = None
 carriedBy CrewNumber = None
 carriedBy MarkedConversion = None
 carriedBy RevisionLow = None
+carriedBy LinkLengths = None
+carriedBy ChargeRates = None
 
 -- a ground, if its test holds
 abbrev pub refuseIf : Bool → Refusal → Verdict

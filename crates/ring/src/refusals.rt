@@ -33,6 +33,8 @@ pub enum Refusal {
     CrewNumber,
     MarkedConversion,
     RevisionLow,
+    LinkLengths,
+    ChargeRates,
 }
 
 // Whether a ground is there: the first one in the order of the rules, or none.
@@ -103,6 +105,8 @@ pub fn number(refusal: Refusal) -> u16
         Refusal::CrewNumber => 26,
         Refusal::MarkedConversion => 27,
         Refusal::RevisionLow => 28,
+        Refusal::LinkLengths => 29,
+        Refusal::ChargeRates => 30,
     }
 }
 
@@ -141,5 +145,7 @@ pub fn carried_by(refusal: Refusal) -> Carried
         Refusal::CrewNumber => Carried::None,
         Refusal::MarkedConversion => Carried::None,
         Refusal::RevisionLow => Carried::None,
+        Refusal::LinkLengths => Carried::None,
+        Refusal::ChargeRates => Carried::None,
     }
 }

@@ -19,12 +19,14 @@ ghost use Rattle.stored.specs.Converting.{convertAnswer, afterConvert, backAnsw
 // A line for each subcommand with what it reads, and examples.
 fn usage() {
     answer(
-        b"usage: rings SUBCOMMAND [FILE]   (without FILE, standard input is read)\n\
-check         reads a list as plan does, then a fate number for each request: how many are served, or the refusal\n\
+        b"usage: rings SUBCOMMAND [FILE]   (check reads standard input where no FILE is named)\n\
+charges FILE  what each live order of the book in FILE pays; standard input has a line of three rates, then a line for each link's length\n\
+check [FILE]  reads a list as plan does, then a fate number for each request: how many are served, or the refusal\n\
 convert       turns a stored book of the old form into the new form, from standard input to standard output\n\
 convert back  turns one of the new form into the old form, from standard input to standard output\n\
 help          prints this\n\
 example: rings check samples/t10.txt\n\
+example: rings charges desk.book <samples/tariff.txt\n\
 example: rings convert <old.book >new.book\n",
     );
 }
@@ -111,11 +113,32 @@ fn convert_as_told() {
     usage();
 }
 
-// The file that the second argument names, or standard input; below 0 if it cannot be opened, which is said.
-fn input() -> i32 {
-    if os::arg_count() < 3 {
-        return STDIN_FILENO;
+// What the orders of a book pay, by the text on standard input.
+fn print_charges(bytes: &[u8]) {
+    // One byte more than a text may have: a longer input shows by it.
+    let mut text = [0u8; 8193];
+    let reading = read_to_end(STDIN_FILENO, &mut text);
+    let Reading::Read(length) = reading else {
+        say_unread();
+        return;
+    };
+    let mut out = [0u8; 16384];
+    let size = charges_text::answer(bytes, &text[..length], &mut out);
+    answer(&out[..size]);
+}
+
+// The charges by the book in a file.
+fn charges(file: i32) {
+    let mut bytes = [0u8; 7169];
+    let reading = read_to_end(file, &mut bytes);
+    match reading {
+        Reading::Read(length) => print_charges(&bytes[..length]),
+        Reading::Failed => say_unread(),
     }
+}
+
+// The file that the second argument names; below 0 if it cannot be opened, which is said.
+fn named_file() -> i32 {
     let mut path = io::buffer();
     let length = os::arg(2, &mut path);
     if os::errno() != 0 {
@@ -127,6 +150,14 @@ fn input() -> i32 {
         os::fail(&path[..length]);
     }
     file
+}
+
+// The file that the second argument names, or standard input.
+fn input() -> i32 {
+    if os::arg_count() < 3 {
+        return STDIN_FILENO;
+    }
+    named_file()
 }
 
 fn main() {
@@ -145,6 +176,13 @@ fn main() {
     }
     if same_bytes(&word[..length], b"convert") {
         convert_as_told();
+        return;
+    }
+    if same_bytes(&word[..length], b"charges") && os::arg_count() == 3 {
+        let file = named_file();
+        if 0 <= file {
+            charges(file);
+        }
         return;
     }
     usage();

@@ -15,6 +15,7 @@ pub mod BlockReading
 pub mod RoundTrip
 pub mod Fitting
 pub mod Promised
+pub mod EitherForm
 pub mod ConversionLaws
 pub mod Bytes
 pub mod CheckChanges

@@ -53,6 +53,16 @@ loaded lowest bytes = loadUnless New (loadVerdict lowest bytes) bytes
 unfoldable pub loadedOld : List ℕ → Loaded
 loadedOld bytes = loadUnless Old (formVerdict Old bytes) bytes
 
+-- of what the loads of the two forms answer and give, the old form's counts if it alone takes the bytes
+abbrev pub newOrOld : LoadAnswer → LoadAnswer → Loaded → Loaded → Loaded
+newOrOld answer.Loaded a new old = new
+newOrOld (answer.Refused r) answer.Loaded new old = old
+newOrOld (answer.Refused r) (answer.Refused q) new old = new
+
+-- "A file in the old form is read too", "A file that is of neither form gets the refusal of the new one"
+unfoldable pub loadedEither : List ℕ → Loaded
+loadedEither bytes = newOrOld (loaded 0 bytes .answer) (loadedOld bytes .answer) (loaded 0 bytes) (loadedOld bytes)
+
 -- the answer in numbers
 abbrev pub loadInNumbers : LoadAnswer → InNumbers
 loadInNumbers answer.Loaded = gives []

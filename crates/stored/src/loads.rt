@@ -22,7 +22,7 @@ ghost use Rattle.ring.specs.declared.refusals.Verdict.the-variants as verdict;
 ghost use Rattle.stored.specs.declared.forms.Form.the-variants.{Old, New};
 ghost use Rattle.stored.specs.Forms.{storedForm};
 ghost use Rattle.ring.specs.Buffers.{sameBytes};
-ghost use Rattle.stored.specs.Loading.{lengthWrong, formVerdict, loadUnless, loaded, loadedOld};
+ghost use Rattle.stored.specs.Loading.{lengthWrong, formVerdict, loadUnless, loaded, loadedOld, loadedEither};
 ghost use Rattle.stored.specs.Internal.Recent.{recentOf};
 
 pub enum LoadAnswer {
@@ -120,4 +120,21 @@ pub fn load_old(bytes: &[u8]) -> Loaded
     ensures { λ r. ⌜ r ≡ loadedOld (now (bytes .entry)) ⌝ }
 {
     load_form(Form::Old, bytes)
+}
+
+// The book of a file in either form: what is no new form is read as the old one, and what is neither keeps the new form's refusal.
+pub fn load_either(bytes: &[u8]) -> Loaded
+    ensures { λ r. ⌜ r ≡ loadedEither (now (bytes .entry)) ⌝ }
+{
+    let new = load(bytes, 0);
+    let answer = new.answer;
+    if let LoadAnswer::Loaded = answer {
+        return new;
+    }
+    let old = load_old(bytes);
+    let other = old.answer;
+    match other {
+        LoadAnswer::Loaded => old,
+        LoadAnswer::Refused(_) => new,
+    }
 }

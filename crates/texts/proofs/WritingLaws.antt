@@ -5,8 +5,8 @@ use mathlib.Core.List.{List, [], _∷_, _++_}
 use native.Mathlib.Omega.{arith}
 use lib.ListN.{length, take, drop, length-append}
 use lib.Seq.{take-length}
-use Rattle.texts.specs.Decimal.{decimal}
-use Rattle.texts.proofs.DecimalLaws.{decimal-one, decimal-more}
+use Rattle.texts.specs.Decimal.{longDecimal}
+use Rattle.texts.proofs.DecimalLaws.{long-one, long-more}
 use Rattle.ring.specs.Buffers.{written}
 use Rattle.ring.proofs.BufferLaws.{written-length, written-twice, written-none}
 use Rattle.texts.specs.Internal.Writing.{Wrote}
@@ -26,12 +26,13 @@ wrote-then {out} {mid} {end} {at} {p} {q} {a} {b} s t =
     }
 
 -- a number written: one digit, or its tenth and then its last digit
-pub wrote-digit : {out end : List ℕ} {at q n b : ℕ} → n < 10 → b ≡ 48 + n → Wrote out at (b ∷ []) end q → Wrote out at (decimal n) end q
-wrote-digit {out} {end} {at} {q} {n} {b} h e s = rw (decimal-one n h, ← e) s
+pub wrote-digit : {out end : List ℕ} {at q n b : ℕ} → n < 10 → b ≡ 48 + n → Wrote out at (b ∷ []) end q
+    → Wrote out at (longDecimal n) end q
+wrote-digit {out} {end} {at} {q} {n} {b} h e s = rw (long-one n h, ← e) s
 
-pub wrote-digits : {out mid end : List ℕ} {at p q n b : ℕ} → 10 ≤ n → n < 100000 → b ≡ 48 + n % 10
-    → Wrote out at (decimal (n / 10)) mid p → Wrote mid p (b ∷ []) end q → Wrote out at (decimal n) end q
-wrote-digits {out} {mid} {end} {at} {p} {q} {n} {b} h l e s t = rw (decimal-more n h l, ← e) (wrote-then s t)
+pub wrote-digits : {out mid end : List ℕ} {at p q n b : ℕ} → 10 ≤ n → n < 18446744073709551616 → b ≡ 48 + n % 10
+    → Wrote out at (longDecimal (n / 10)) mid p → Wrote mid p (b ∷ []) end q → Wrote out at (longDecimal n) end q
+wrote-digits {out} {mid} {end} {at} {p} {q} {n} {b} h l e s t = rw (long-more n h l, ← e) (wrote-then s t)
 
 -- a string written whole
 pub wrote-string : {out end bytes : List ℕ} {at i : ℕ} → at + length bytes ≤ length out → i ≡ length bytes

@@ -12,3 +12,7 @@ digits (suc k) n = cond (ltb n 10) ((48 + n) ∷ []) (digits k (n / 10) ++ ((48 
 -- "Numbers are printed without leading zeros": a number of the text has at most 5 digits
 unfoldable pub decimal : ℕ → List ℕ
 decimal n = digits 5 n
+
+-- the same of a number of 64 bits, which has at most 20 digits
+unfoldable pub longDecimal : ℕ → List ℕ
+longDecimal n = digits 20 n

@@ -17,24 +17,28 @@ pub data Field : Type 0 where
   missing : Field
   found : ℕ → List ℕ → Field
 
--- one more digit, of the five that a number may have
-abbrev pub oneMore : ℕ → ℕ → Bool
-oneMore b count = (leb 48 b && leb b 57) && ltb count 5
+-- one more digit, of so many that a number may have
+abbrev pub oneMore : ℕ → ℕ → ℕ → Bool
+oneMore most b count = (leb 48 b && leb b 57) && ltb count most
 
 -- the byte closes the number, which has a digit and is within the limit
-abbrev pub closes : ℕ → ℕ → ℕ → ℕ → Bool
-closes close b count value = eqb b close && (ltb 0 count && leb value 65535)
+abbrev pub closes : ℕ → ℕ → ℕ → ℕ → ℕ → Bool
+closes limit close b count value = eqb b close && (ltb 0 count && leb value limit)
 
--- "numbers of 1 to 5 digits up to 65,535": the number, after so many digits of such a value
-abbrev pub fieldFrom : ℕ → ℕ → ℕ → List ℕ → Field
-fieldFrom close count value [] = missing
-fieldFrom close count value (b ∷ text) =
-    cond (oneMore b count) (fieldFrom close (count + 1) (10 * value + (b - 48)) text)
-    (cond (closes close b count value) (found value text) missing)
+-- a number of at most so many digits, up to the limit, closed by this byte, after so many digits of such a value
+abbrev pub fieldFrom : ℕ → ℕ → ℕ → ℕ → ℕ → List ℕ → Field
+fieldFrom most limit close count value [] = missing
+fieldFrom most limit close count value (b ∷ text) =
+    cond (oneMore most b count) (fieldFrom most limit close (count + 1) (10 * value + (b - 48)) text)
+    (cond (closes limit close b count value) (found value text) missing)
 
--- the number at the start of a text, closed by this byte
+-- "numbers of 1 to 5 digits up to 65,535": the number at the start of a text, closed by this byte
 unfoldable pub field : ℕ → List ℕ → Field
-field close text = fieldFrom close 0 0 text
+field close text = fieldFrom 5 65535 close 0 0 text
+
+-- "numbers of 1 to 10 digits up to 4,294,967,295"
+unfoldable pub longField : ℕ → List ℕ → Field
+longField close text = fieldFrom 10 4294967295 close 0 0 text
 
 -- what follows from a number and the text behind it, and what where there is none
 abbrev pub onField : {A : Type 0} → Field → A → (ℕ → List ℕ → A) → A
@@ -55,3 +59,8 @@ line text =
 abbrev pub onLine : {A : Type 0} → Line → A → (ℕ → ℕ → List ℕ → A) → A
 onLine broken otherwise next = otherwise
 onLine (two x y text) otherwise next = next x y text
+
+-- this, if nothing is left of the text, or that
+abbrev pub ended : {A : Type 0} → List ℕ → A → A → A
+ended [] this that = this
+ended (b ∷ text) this that = that

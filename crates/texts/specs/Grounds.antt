@@ -7,7 +7,7 @@ use Rattle.ring.specs.declared.refusals.Refusal.the-variants.{TableShort, FateN
 use Rattle.ring.specs.declared.refusals.Refusal.the-variants.{ColourNumber, ColourHeld, BookFull, SerialsUsedUp, SerialNeverGiven}
 use Rattle.ring.specs.declared.refusals.Refusal.the-variants.{SerialRemoved, LinkNumber, BufferShort, StoredLength, BlockCheck, StoredForm}
 use Rattle.ring.specs.declared.refusals.Refusal.the-variants.{TextForm, LineCount, SerialLive, SerialConfirmed, MarkedRecord, CrewNumber}
-use Rattle.ring.specs.declared.refusals.Refusal.the-variants.{MarkedConversion, RevisionLow}
+use Rattle.ring.specs.declared.refusals.Refusal.the-variants.{MarkedConversion, RevisionLow, LinkLengths, ChargeRates}
 use Rattle.texts.specs.Bytes.{bytes}
 
 -- the ground's words, to the end of the line
@@ -44,3 +44,5 @@ groundOf MarkedRecord = bytes "a record that is pending or whose crew is not 0 h
 groundOf CrewNumber = bytes "crew above 999\n"
 groundOf MarkedConversion = bytes "a record that is pending or whose crew is not 0 cannot be converted back\n"
 groundOf RevisionLow = bytes "revision too low\n"
+groundOf LinkLengths = bytes "not n lengths, or a length not 1 to 1,000,000\n"
+groundOf ChargeRates = bytes "not three rates, or a rate above 100,000\n"

@@ -9,7 +9,7 @@ ghost use Rattle.texts.specs.Grounds.{groundOf};
 ghost use Rattle.texts.specs.Internal.Writing.{Wrote};
 
 // The lines of the grounds, in the order of their numbers from 1.
-const GROUNDS: [u8; 1008] = *b"n not 3 to 256\n\
+const GROUNDS: [u8; 1095] = *b"n not 3 to 256\n\
 w not 1 to 128\n\
 more than 512 requests, or an odd number of ends\n\
 an end is n or more\n\
@@ -36,10 +36,12 @@ already confirmed\n\
 a record that is pending or whose crew is not 0 has no old form\n\
 crew above 999\n\
 a record that is pending or whose crew is not 0 cannot be converted back\n\
-revision too low\n";
+revision too low\n\
+not n lengths, or a length not 1 to 1,000,000\n\
+not three rates, or a rate above 100,000\n";
 
 // The position behind the line of each ground.
-const ENDS: [u16; 29] = [
+const ENDS: [u16; 31] = [
     0,
     15,
     30,
@@ -69,6 +71,8 @@ const ENDS: [u16; 29] = [
     918,
     991,
     1008,
+    1054,
+    1095,
 ];
 
 // A ground in words, to the end of its line.

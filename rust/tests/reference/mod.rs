@@ -3,6 +3,7 @@
 
 pub mod blocks;
 pub mod books;
+pub mod charges;
 pub mod draws;
 pub mod lists;
 pub mod matchings;

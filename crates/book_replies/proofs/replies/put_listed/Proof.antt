@@ -4,7 +4,8 @@ use native.Mathlib.Omega.{arith}
 use lib.ListN.{length}
 use borrow.Author.Needs.{needs}
 use Rattle.texts.proofs.WritingLaws.{wrote-none}
-use Rattle.book_replies.proofs.ReplyLaws.{listed-so, listed-not}
+use Rattle.book_replies.specs.Replies.{orderText}
+use Rattle.book_replies.proofs.ListingLaws.{listed-so, listed-not}
 use Rattle.book_replies.proofs.replies.put_listed.Statement.{statement}
 use Rattle.book_replies.proofs.replies.put_listed.Tie as tie
 
@@ -22,13 +23,14 @@ returns c =
     let put = c .before .before in
     let test = put .before .before in
     let s = test .before .before .before .args in
-    rw (← listed-so (s .live) (s .circuit) (sym (test .before .is-listed .ensures) ∙ test .if1 .taken)) (put .put-order .ensures)
+    rw (← listed-so orderText (s .live) (s .circuit) (sym (test .before .is-listed .ensures) ∙ test .if1 .taken)) (put .put-order .ensures)
 
 returns-2 : tie.Need-returns-2
 returns-2 c =
     let s = c .before .before .before .args in
     let room : s .at ≤ length (s .out .now) = omega arith in
-    rw (listed-not (s .live) (s .circuit) (sym (c .before .is-listed .ensures) ∙ c .if1 .left)) (wrote-none (s .out .now) (s .at) room)
+    rw (listed-not orderText (s .live) (s .circuit) (sym (c .before .is-listed .ensures) ∙ c .if1 .left))
+    (wrote-none (s .out .now) (s .at) room)
 
 pub put-listed-spec : {M : Type 1} → statement M
 put-listed-spec =

@@ -3,12 +3,14 @@ use Prim.Native.Nat.{_-_}
 use native.Mathlib.Omega.{arith}
 use borrow.Author.Needs.{needs}
 use Rattle.texts.proofs.WritingLaws.{wrote-length}
-use Rattle.book_replies.proofs.ReplyLaws.{Listed, listed-none, listed-room, listed-next, listed-all}
+use Rattle.book_replies.specs.Replies.{orderText}
+use Rattle.book_replies.proofs.ReplyLaws.{order-short}
+use Rattle.book_replies.proofs.ListingLaws.{Listed, listed-none, listed-room, listed-next, listed-all}
 use Rattle.book_replies.proofs.replies.put_orders.Statement.{statement}
 use Rattle.book_replies.proofs.replies.put_orders.Tie as tie
 
 abbrev Inv-loop : tie.InvT-loop
-Inv-loop out₀ live book records next₀ i₀ out next i = Listed live book out₀ i out next
+Inv-loop out₀ live book records next₀ i₀ out next i = Listed orderText 32 live book out₀ i out next
 
 abbrev μ-loop : tie.MeasureT-loop
 μ-loop out₀ live book records next₀ i₀ out next i = records - i
@@ -17,7 +19,9 @@ record-count-requires : tie.Need-record-count-requires Inv-loop μ-loop
 record-count-requires c κs = search needs
 
 loop-holds : tie.Need-loop-holds Inv-loop μ-loop
-loop-holds c = listed-none (c .before .before .args .live) (c .before .before .args .t2) (c .before .before .args .out .now)
+loop-holds c =
+    let s = c .before .before .args in
+    listed-none orderText 32 order-short (s .live) (s .t2) (s .out .now)
 
 mul-circuit : tie.Need-mul-circuit Inv-loop μ-loop
 mul-circuit c = omega arith
@@ -29,7 +33,8 @@ put-listed-requires : tie.Need-put-listed-requires Inv-loop μ-loop
 put-listed-requires c κs =
     let start = c .before .before .before .before .before .before in
     let l = c .before .before .before in
-    listed-room (start .args .live) (start .args .t2) (start .args .out .now) (l .loop .i) (l .loop .inv) (omega arith) (start .pre)
+    listed-room orderText 32 order-short (start .args .live) (start .args .t2) (start .args .out .now) (l .loop .i) (l .loop .inv)
+    (omega arith) (start .pre)
 
 add-i : tie.Need-add-i Inv-loop μ-loop
 add-i c = omega arith
@@ -42,7 +47,7 @@ loop-again c =
     let put-listed = c .before .before in
     let l = put-listed .before .before .before .before in
     let s = put-listed .before .before .before .before .before .before .before in
-    listed-next (s .args .live) (s .args .t2) (s .args .out .now) (l .loop .i) (l .loop .inv) (omega arith)
+    listed-next orderText 32 order-short (s .args .live) (s .args .t2) (s .args .out .now) (l .loop .i) (l .loop .inv) (omega arith)
     (put-listed .put-listed .ensures)
 
 same-length : tie.Need-same-length Inv-loop μ-loop
@@ -52,7 +57,7 @@ returns : tie.Need-returns Inv-loop μ-loop
 returns c =
     let l = c .before in
     let s = c .before .before .before .before in
-    listed-all (s .args .live) (s .args .t2) (s .args .out .now) (l .loop .i) (l .loop .inv) (omega arith)
+    listed-all orderText 32 order-short (s .args .live) (s .args .t2) (s .args .out .now) (l .loop .i) (l .loop .inv) (omega arith)
 
 pub put-orders-spec : {M : Type 1} → statement M
 put-orders-spec =

@@ -1,74 +1,62 @@
-use Prim.Native.Nat.{_<_}
 use native.Mathlib.Omega.{arith}
-use Rattle.book_replies.proofs.ReplyLaws.{revision-small, revision-one, revision-more}
+use Rattle.book_replies.specs.Replies.{revisionText}
+use Rattle.texts.proofs.DecimalLaws.{long-short}
+use Rattle.texts.proofs.WordLaws.{room-left}
+use Rattle.texts.proofs.WritingLaws.{wrote-then}
 use borrow.Author.Needs.{needs}
 use Rattle.book_replies.proofs.replies.put_revision.Statement.{statement}
 use Rattle.book_replies.proofs.replies.put_revision.Tie as tie
 
+slice-aggregate-put : tie.Need-slice-aggregate-put
+slice-aggregate-put c = search needs
+
+put-requires : tie.Need-put-requires
+put-requires c κs = search needs
+
 revision-requires : tie.Need-revision-requires
 revision-requires c κs = search needs
 
-slice-aggregate-put-one : tie.Need-slice-aggregate-put-one
-slice-aggregate-put-one c = search needs
+cast-put-long : tie.Need-cast-put-long
+cast-put-long c = search needs
 
-cast-put-one : tie.Need-cast-put-one
-cast-put-one c = search needs
+put-long-requires : tie.Need-put-long-requires
+put-long-requires c κs =
+    let put = c .before .before .before .before in
+    let start = put .before .before .before .before in
+    let word = room-left 9 16375 (put .put .ensures) (omega arith) (start .pre) in
+    let short = long-short (c .revision .result) in
+    omega arith
 
-put-one-requires : tie.Need-put-one-requires
-put-one-requires c κs = search needs
+put-byte-requires : tie.Need-put-byte-requires
+put-byte-requires c κs =
+    let put-long = c .before .before .before in
+    let put = put-long .before .before .before .before .before in
+    let start = put .before .before .before .before in
+    let word = room-left 9 16375 (put .put .ensures) (omega arith) (start .pre) in
+    let number = room-left 20 16355 (put-long .put-long .ensures) (long-short _) word in
+    omega arith
 
 same-length : tie.Need-same-length
 same-length c = search needs
 
 returns : tie.Need-returns
+unfolding revisionText
 returns c =
-    let put-one = c .before .before in
-    let test1 = put-one .before .before .before in
-    revision-one (test1 .before .revision .ensures) (test1 .if1 .taken) (put-one .put-one .ensures)
-
-slice-aggregate-put-two : tie.Need-slice-aggregate-put-two
-slice-aggregate-put-two c = search needs
-
-cast-put-two : tie.Need-cast-put-two
-cast-put-two c =
-    let revision = c .before .before .before in
-    let start = revision .before .before in
-    let grants : start .args .book .grants < 65536 = omega arith in
-    let small = revision-small (start .args .book) grants (revision .revision .ensures) in
-    omega arith
-
-slice-aggregate-put-two-2 : tie.Need-slice-aggregate-put-two-2
-slice-aggregate-put-two-2 c = search needs
-
-cast-put-two-2 : tie.Need-cast-put-two-2
-cast-put-two-2 c = search needs
-
-put-two-requires : tie.Need-put-two-requires
-put-two-requires c κs = search needs
-
-same-length-2 : tie.Need-same-length-2
-same-length-2 c = search needs
-
-returns-2 : tie.Need-returns-2
-returns-2 c =
-    let put-two = c .before .before in
-    let test1 = put-two .before .before .before .before in
-    revision-more (test1 .before .revision .ensures) (test1 .if1 .left) (put-two .put-two .ensures)
+    let put-byte = c .before .before in
+    let put-long = put-byte .before .before .before .before in
+    let put = put-long .before .before .before .before .before in
+    rw (← put-long .before .revision .ensures)
+    (wrote-then (put .put .ensures) (wrote-then (put-long .put-long .ensures) (put-byte .put-byte .ensures)))
 
 pub put-revision-spec : {M : Type 1} → statement M
 put-revision-spec =
     tie.close
     (tie.spec
+    slice-aggregate-put
+    put-requires
     revision-requires
-    slice-aggregate-put-one
-    cast-put-one
-    put-one-requires
+    cast-put-long
+    put-long-requires
+    put-byte-requires
     same-length
-    returns
-    slice-aggregate-put-two
-    cast-put-two
-    slice-aggregate-put-two-2
-    cast-put-two-2
-    put-two-requires
-    same-length-2
-    returns-2)
+    returns)

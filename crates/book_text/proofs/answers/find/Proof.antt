@@ -13,8 +13,8 @@ returns c =
     let s = c .before .before .before .before .args in
     find-none (s .present) (s .bytes .now) (not-true _ (c .before .before .if1 .taken)) (c .before .«open» .ensures)
 
-load-requires : tie.Need-load-requires
-load-requires c κs = search needs
+load-either-requires : tie.Need-load-either-requires
+load-either-requires c κs = search needs
 
 enum-told : tie.Need-enum-told
 enum-told c = search needs
@@ -25,28 +25,21 @@ found-requires c κs = search needs
 enum-known-answer : tie.Need-enum-known-answer
 enum-known-answer c = search needs
 
-find-old-requires : tie.Need-find-old-requires
-find-old-requires c κs = search needs
-
 returns-2 : tie.Need-returns-2
 returns-2 c =
     let told = c .before in
     let load = told .before .before .before in
     let test1 = load .before in
-    let start = test1 .before .before in
-    let s = start .args in
+    let s = test1 .before .before .args in
     c .found .ensures
-    ∙ find-some (s .present) (s .bytes .now) (not-false _ (test1 .if1 .left)) (load .load .ensures) (told .enum-told .given .1)
+    ∙ find-some (s .present) (s .bytes .now) (not-false _ (test1 .if1 .left)) (load .load-either .ensures) (told .enum-told .given .1)
 
 returns-3 : tie.Need-returns-3
 returns-3 c =
-    let answer = c .before .before in
-    let load = answer .before .before .before in
+    let load = c .before .before .before .before in
     let test1 = load .before in
-    let start = test1 .before .before in
-    let s = start .args in
-    c .find-old .ensures
-    ∙ find-some (s .present) (s .bytes .now) (not-false _ (test1 .if1 .left)) (load .load .ensures) (answer .answer .given .1)
+    let s = test1 .before .before .args in
+    find-some (s .present) (s .bytes .now) (not-false _ (test1 .if1 .left)) (load .load-either .ensures) (c .before .answer .given .1)
 
 pub find-spec : {M : Type 1} → statement M
 find-spec =
@@ -54,10 +47,9 @@ find-spec =
     (tie.spec
     open-requires
     returns
-    load-requires
+    load-either-requires
     enum-told
     found-requires
     enum-known-answer
-    find-old-requires
     returns-2
     returns-3)

@@ -94,6 +94,12 @@ enum-told-25 c = search needs
 enum-told-26 : tie.Need-enum-told-26
 enum-told-26 c = search needs
 
+enum-told-27 : tie.Need-enum-told-27
+enum-told-27 c = search needs
+
+enum-told-28 : tie.Need-enum-told-28
+enum-told-28 c = search needs
+
 returns : tie.Need-returns
 returns c = ap carriedBy (sym (c .enum-told .given .1))
 
@@ -184,6 +190,12 @@ returns-29 c = ap carriedBy (sym (c .enum-told25 .given .1))
 returns-30 : tie.Need-returns-30
 returns-30 c = ap carriedBy (sym (c .enum-told26 .given .1))
 
+returns-31 : tie.Need-returns-31
+returns-31 c = ap carriedBy (sym (c .enum-told27 .given .1))
+
+returns-32 : tie.Need-returns-32
+returns-32 c = ap carriedBy (sym (c .enum-told28 .given .1))
+
 pub carried-by-spec : {M : Type 1} → statement M
 carried-by-spec =
     tie.close
@@ -218,6 +230,8 @@ carried-by-spec =
     enum-told-24
     enum-told-25
     enum-told-26
+    enum-told-27
+    enum-told-28
     returns
     returns-2
     returns-3
@@ -247,4 +261,6 @@ carried-by-spec =
     returns-27
     returns-28
     returns-29
-    returns-30)
+    returns-30
+    returns-31
+    returns-32)

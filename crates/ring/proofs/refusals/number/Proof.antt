@@ -94,6 +94,12 @@ enum-told-29 c = search needs
 enum-told-30 : tie.Need-enum-told-30
 enum-told-30 c = search needs
 
+enum-told-31 : tie.Need-enum-told-31
+enum-told-31 c = search needs
+
+enum-told-32 : tie.Need-enum-told-32
+enum-told-32 c = search needs
+
 returns : tie.Need-returns
 returns c = ap numberOf (sym (c .enum-told .given .1))
 
@@ -184,6 +190,12 @@ returns-29 c = ap numberOf (sym (c .enum-told29 .given .1))
 returns-30 : tie.Need-returns-30
 returns-30 c = ap numberOf (sym (c .enum-told30 .given .1))
 
+returns-31 : tie.Need-returns-31
+returns-31 c = ap numberOf (sym (c .enum-told31 .given .1))
+
+returns-32 : tie.Need-returns-32
+returns-32 c = ap numberOf (sym (c .enum-told32 .given .1))
+
 pub number-spec : {M : Type 1} → statement M
 number-spec =
     tie.close
@@ -218,6 +230,8 @@ number-spec =
     enum-told-28
     enum-told-29
     enum-told-30
+    enum-told-31
+    enum-told-32
     returns
     returns-2
     returns-3
@@ -247,4 +261,6 @@ number-spec =
     returns-27
     returns-28
     returns-29
-    returns-30)
+    returns-30
+    returns-31
+    returns-32)

@@ -18,8 +18,8 @@ returns-3 c = simp (
   lt-leb _ _ (c .if3 .taken),
 )
 
-cast-t7 : tie.Need-cast-t7
-cast-t7 c = search needs
+cast-t9 : tie.Need-cast-t9
+cast-t9 c = search needs
 
 returns-4 : tie.Need-returns-4
 returns-4 c = simp (
@@ -29,4 +29,4 @@ returns-4 c = simp (
 )
 
 pub closing-spec : {M : Type 1} → statement M
-closing-spec = tie.close (tie.spec returns returns-2 returns-3 cast-t7 returns-4)
+closing-spec = tie.close (tie.spec returns returns-2 returns-3 cast-t9 returns-4)

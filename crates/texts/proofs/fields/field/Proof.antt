@@ -1,112 +1,29 @@
-use Prim.Native.Nat.{_+_, _-_, _≤_, _<_}
-use mathlib.Core.Path.{_≡_, sym, _∙_}
 use native.Mathlib.Omega.{arith}
-use lib.ListN.{length, drop}
+use Rattle.texts.proofs.FieldLaws.{field-of, field-missing}
 use borrow.Author.Needs.{needs}
-use borrow.Author.Tests.{not-true, not-false}
-use Rattle.texts.specs.Fields as Reading
-use Rattle.texts.specs.Fields.{fieldFrom}
-use Rattle.texts.proofs.DecimalLaws.{tens}
-use Rattle.texts.proofs.FieldLaws.{one-more-digit, tens-small, field-start, field-again, field-closing, field-none}
 use Rattle.texts.proofs.fields.field.Statement.{statement}
 use Rattle.texts.proofs.fields.field.Tie as tie
 
-abbrev Inv-loop : tie.InvT-loop
-Inv-loop text at close value₀ count₀ value count =
-    (count ≤ 5)
-    × (at + count ≤ length text)
-    × (value < tens count)
-    × (fieldFrom close count value (drop (at + count) text) ≡ Reading.field close (drop at text))
+number-at-requires : tie.Need-number-at-requires
+number-at-requires c κs = search needs
 
-abbrev μ-loop : tie.MeasureT-loop
-μ-loop text at close value₀ count₀ value count = length text - (at + count)
+enum-known-found : tie.Need-enum-known-found
+enum-known-found c = search needs
 
-loop-holds : tie.Need-loop-holds Inv-loop μ-loop
-loop-holds c = (
-  omega arith,
-  omega arith,
-  omega arith,
-  field-start (c .before .args .close) (c .before .args .text .now) (c .before .args .at),
-)
+enum-told : tie.Need-enum-told
+enum-told c = search needs
 
-add-loop : tie.Need-add-loop Inv-loop μ-loop
-add-loop c = search needs
+returns : tie.Need-returns
+returns c = field-missing (c .before .before .number-at .ensures) (c .enum-told .given .1)
 
-add-byte : tie.Need-add-byte Inv-loop μ-loop
-add-byte c = search needs
+cast-t7 : tie.Need-cast-t7
+cast-t7 c =
+    let found = field-of (c .before .before .before .number-at .ensures) (c .before .found .given .1) in
+    omega arith
 
-shared-slice-read-byte : tie.Need-shared-slice-read-byte Inv-loop μ-loop
-shared-slice-read-byte c = search needs
-
-one-more-requires : tie.Need-one-more-requires Inv-loop μ-loop
-one-more-requires c κs = search needs
-
-add-closing : tie.Need-add-closing Inv-loop μ-loop
-add-closing c = search needs
-
-add-closing-2 : tie.Need-add-closing-2 Inv-loop μ-loop
-add-closing-2 c = search needs
-
-closing-requires : tie.Need-closing-requires Inv-loop μ-loop
-closing-requires c κs = search needs
-
-returns : tie.Need-returns Inv-loop μ-loop
-returns c =
-    let here = c .before .before .before .before .before .loop in
-    let start = c .before .before .before .before .before .before .before in
-    let read = field-closing (start .args .close) (start .args .text .now) (start .args .at) (here .count) (here .value)
-    (c .before .before .before .before .loop-test .taken)
-    (sym (c .before .before .one-more .ensures) ∙ not-true _ (c .before .if1 .taken)) (c .closing .result) (c .closing .ensures) in
-    record { same = read .0 ∙ here .inv .3; fits = read .1 }
-
-with-digit-requires : tie.Need-with-digit-requires Inv-loop μ-loop
-with-digit-requires c κs =
-    let here = c .before .before .before .before .loop in
-    let digit = one-more-digit _ _ (sym (c .before .one-more .ensures) ∙ not-false _ (c .if1 .left)) in
-    (tens-small (here .count) (here .value) (digit .2) (here .inv .2), digit .0)
-
-add-count : tie.Need-add-count Inv-loop μ-loop
-add-count c = search needs
-
-loop-less : tie.Need-loop-less Inv-loop μ-loop
-loop-less c = search needs
-
-loop-again : tie.Need-loop-again Inv-loop μ-loop
-loop-again c =
-    let here = c .before .before .before .before .before .loop in
-    let start = c .before .before .before .before .before .before .before in
-    field-again (start .args .close) (start .args .text .now) (start .args .at) (here .count) (here .value)
-    (c .before .before .before .before .loop-test .taken)
-    (c .with-digit .result) (here .inv .2) (sym (c .before .before .one-more .ensures) ∙ not-false _ (c .before .if1 .left))
-    (c .with-digit .ensures) (here .inv .3)
-
-returns-2 : tie.Need-returns-2 Inv-loop μ-loop
-returns-2 c =
-    let here = c .before .loop in
-    let start = c .before .before .before in
-    record {
-      same = field-none (start .args .close) (start .args .text .now) (start .args .at) (here .count) (here .value)
-          (c .loop-test .left) ∙ here .inv .3;
-      fits = tt;
-    }
+returns-2 : tie.Need-returns-2
+returns-2 c = field-of (c .before .before .before .number-at .ensures) (c .before .found .given .1) .1
 
 pub field-spec : {M : Type 1} → statement M
 field-spec =
-    tie.close
-    (tie.spec
-    Inv-loop
-    μ-loop
-    loop-holds
-    add-loop
-    add-byte
-    shared-slice-read-byte
-    one-more-requires
-    add-closing
-    add-closing-2
-    closing-requires
-    returns
-    with-digit-requires
-    add-count
-    loop-less
-    loop-again
-    returns-2)
+    tie.close (tie.spec number-at-requires enum-known-found enum-told returns cast-t7 returns-2)

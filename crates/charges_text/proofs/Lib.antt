@@ -1,0 +1,4 @@
+-- The laws that the functions' proofs cite.
+pub mod ReadLaws
+pub mod LineLaws
+pub mod AnswerLaws
