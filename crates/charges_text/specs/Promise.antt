@@ -1,11 +1,10 @@
 -- What the text function of `rings charges` promises.
-use Prim.Native.Nat.{ℕ, _≤_, _<_}
-use mathlib.Core.Path.{_≡_}
-use mathlib.Core.List.{List, _++_}
-use lib.ListN.{length, drop}
+use Prim.Native.Nat.{ℕ}
+use mathlib.Core.List.{List}
 use Rattle.ring.specs.declared.refusals.Refusal.the-variants.{TextForm}
 use Rattle.ring.specs.declared.refusals.Verdict.{Verdict}
 use Rattle.ring.specs.declared.refusals.Verdict.the-variants as verdict
+use Rattle.texts.specs.Outputs.{Output}
 use Rattle.book.specs.declared.books.Book.{Book}
 use Rattle.stored.specs.declared.loads.LoadAnswer.{LoadAnswer}
 use Rattle.stored.specs.declared.loads.LoadAnswer.the-variants as load
@@ -34,9 +33,6 @@ textFor bytes (readable rates lengths) = textOf (loadedEither bytes .answer) (lo
 unfoldable pub outputFor : List ℕ → List ℕ → List ℕ
 outputFor bytes text = textFor bytes (readingOf text)
 
--- the promise: no output is longer than 16,384 bytes, so that a buffer of that length begins with it, whole, and the rest stays; a shorter
--- one gets nothing
-pub record ChargesTextPromise (bytes text before after : List ℕ) (size : ℕ) : Type 0 where
-  pub short : length before < 16384 → (size ≡ 0) × (after ≡ before)
-  pub whole : 16384 ≤ length before → size ≡ length (outputFor bytes text)
-  pub buffer : 16384 ≤ length before → after ≡ outputFor bytes text ++ drop (length (outputFor bytes text)) before
+-- the promise: no output is longer than 16,384 bytes
+abbrev pub ChargesTextPromise : List ℕ → List ℕ → List ℕ → List ℕ → ℕ → Type 0
+ChargesTextPromise bytes text before after size = Output 16384 (outputFor bytes text) before after size

@@ -1,9 +1,8 @@
 -- What the checking program's text function promises.
-use Prim.Native.Nat.{ℕ, _≤_, _<_}
-use mathlib.Core.Path.{_≡_}
-use mathlib.Core.List.{List, _++_}
-use lib.ListN.{length, drop}
+use Prim.Native.Nat.{ℕ}
+use mathlib.Core.List.{List}
 use Rattle.ring.specs.declared.refusals.Refusal.the-variants.{TextForm}
+use Rattle.texts.specs.Outputs.{Output}
 use Rattle.checker.specs.declared.CheckAnswer.{CheckAnswer}
 use Rattle.checker.specs.declared.CheckAnswer.the-variants as check
 use Rattle.checker.specs.Check.{checkAnswer}
@@ -19,9 +18,6 @@ answerTo (readable n w ends table) = checkAnswer n w ends table
 unfoldable pub lineFor : List ℕ → List ℕ
 lineFor text = verdictLine (answerTo (readingOf text))
 
--- the promise: no line is longer than 32 bytes, so that a buffer of that length begins with it, whole, and the rest stays; a shorter one
--- gets nothing
-pub record CheckTextPromise (text before after : List ℕ) (size : ℕ) : Type 0 where
-  pub short : length before < 32 → (size ≡ 0) × (after ≡ before)
-  pub whole : 32 ≤ length before → size ≡ length (lineFor text)
-  pub buffer : 32 ≤ length before → after ≡ lineFor text ++ drop (length (lineFor text)) before
+-- the promise: no line is longer than 32 bytes
+abbrev pub CheckTextPromise : List ℕ → List ℕ → List ℕ → ℕ → Type 0
+CheckTextPromise text before after size = Output 32 (lineFor text) before after size

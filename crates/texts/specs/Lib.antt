@@ -3,5 +3,6 @@ pub mod Bytes
 pub mod Decimal
 pub mod Fields
 pub mod Layout
+pub mod Outputs
 pub mod Grounds
 pub mod Internal

@@ -3,7 +3,7 @@ use native.Mathlib.Omega.{arith}
 use lib.Seq.{length-take-le}
 use borrow.Author.Needs.{needs}
 use Rattle.streams.proofs.StreamLaws.{read-fits}
-use Rattle.charges_text.proofs.AnswerLaws.{output-fits}
+use Rattle.texts.proofs.OutputLaws.{output-fits}
 use Rattle.rings.proofs.print_charges.Statement.{statement}
 use Rattle.rings.proofs.print_charges.Tie as tie
 

@@ -2,7 +2,7 @@ use borrow.Author.Needs.{needs}
 use mathlib.Core.Path.{sym}
 use native.Mathlib.Omega.{arith}
 use lib.Seq.{length-take-le}
-use Rattle.check_text.proofs.AnswerLaws.{line-fits}
+use Rattle.texts.proofs.OutputLaws.{output-fits}
 use Rattle.rings.proofs.print_check.Statement.{statement}
 use Rattle.rings.proofs.print_check.Tie as tie
 
@@ -13,12 +13,12 @@ answer-requires : tie.Need-answer-requires
 answer-requires c κs = search needs
 
 array-share-prefix-out : tie.Need-array-share-prefix-out
-array-share-prefix-out c = line-fits (c .before .answer .ensures) (omega arith) (c .before .answer .kept .1 .0)
+array-share-prefix-out c = output-fits (c .before .answer .ensures) (omega arith) (c .before .answer .kept .1 .0)
 
 slice-aggregate-answer-2 : tie.Need-slice-aggregate-answer-2
 slice-aggregate-answer-2 c =
     let answered = c .before .before .answer in
-    sym (length-take-le (answered .result) (answered .last .1 .0) (line-fits (answered .ensures) (omega arith) (answered .kept .1 .0)))
+    sym (length-take-le (answered .result) (answered .last .1 .0) (output-fits (answered .ensures) (omega arith) (answered .kept .1 .0)))
 
 answer-requires-2 : tie.Need-answer-requires-2
 answer-requires-2 c κs = search needs

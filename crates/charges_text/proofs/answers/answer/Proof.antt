@@ -2,13 +2,13 @@ use mathlib.Core.Path.{sym}
 use native.Mathlib.Omega.{arith}
 use lib.Seq.{length-take-le}
 use borrow.Author.Needs.{needs}
-use Rattle.charges_text.proofs.AnswerLaws.{reading-count, output-unreadable, output-readable, output-short, output-printed}
-use Rattle.charges_text.proofs.AnswerLaws.{either-kept}
+use Rattle.texts.proofs.OutputLaws.{output-short, output-written}
+use Rattle.charges_text.proofs.AnswerLaws.{reading-count, output-unreadable, output-readable, either-kept}
 use Rattle.charges_text.proofs.answers.answer.Statement.{statement}
 use Rattle.charges_text.proofs.answers.answer.Tie as tie
 
 returns : tie.Need-returns
-returns c = output-short _ _ _ (c .if1 .taken)
+returns c = output-short 16384 _ _ (c .if1 .taken)
 
 slice-aggregate-read : tie.Need-slice-aggregate-read
 slice-aggregate-read c = search needs
@@ -32,7 +32,7 @@ returns-2 : tie.Need-returns-2
 returns-2 c =
     let put = c .before .before in
     let read = c .before .before .before .before .before .before .before in
-    output-printed (read .before .before .if1 .left)
+    output-written (read .before .before .if1 .left)
     (output-unreadable _ (read .read .ensures) (c .before .before .before .before .enum-told .given .1))
     (put .put-refused .ensures)
 
@@ -80,7 +80,7 @@ returns-3 c =
     let load = told .before .before .before in
     let reading = load .before .before in
     let read = reading .before .before .before in
-    output-printed (read .before .before .if1 .left)
+    output-written (read .before .before .if1 .left)
     (output-readable _ (read .read .ensures) (reading .reading .given .1) (load .load-either .ensures) (told .enum-told2 .given .1))
     (put .put-answer .ensures)
 
@@ -94,7 +94,7 @@ returns-4 c =
     let load = answer .before .before .before in
     let reading = load .before .before in
     let read = reading .before .before .before in
-    output-printed (read .before .before .if1 .left)
+    output-written (read .before .before .if1 .left)
     (output-readable _ (read .read .ensures) (reading .reading .given .1) (load .load-either .ensures) (answer .answer .given .1))
     (put .put-refused2 .ensures)
 

@@ -1,10 +1,11 @@
-use Rattle.check_text.proofs.AnswerLaws.{line-short, line-printed}
+use Rattle.texts.proofs.OutputLaws.{output-short, output-written}
+use Rattle.check_text.proofs.AnswerLaws.{line-told}
 use borrow.Author.Needs.{needs}
 use Rattle.check_text.proofs.answers.answer.Statement.{statement}
 use Rattle.check_text.proofs.answers.answer.Tie as tie
 
 returns : tie.Need-returns
-returns c = line-short _ _ (c .if1 .taken)
+returns c = output-short 32 _ _ (c .if1 .taken)
 
 text-answer-requires : tie.Need-text-answer-requires
 text-answer-requires c κs = search needs
@@ -18,7 +19,7 @@ same-length c = search needs
 returns-2 : tie.Need-returns-2
 returns-2 c =
     let put = c .before .before in
-    line-printed (put .before .before .before .if1 .left) (put .before .text-answer .ensures) (put .put-verdict .ensures)
+    output-written (put .before .before .before .if1 .left) (line-told _ (put .before .text-answer .ensures)) (put .put-verdict .ensures)
 
 pub answer-spec : {M : Type 1} → statement M
 answer-spec =
