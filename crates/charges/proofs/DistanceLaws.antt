@@ -14,25 +14,25 @@ use Rattle.charges.specs.Lengths.{metres}
 use Rattle.charges.specs.Rates.{ratesIn, cents}
 use Rattle.charges.specs.Charges.{circuitCharge, chargesOf}
 use Rattle.charges.specs.Promises.{total}
-use Rattle.charges.specs.Internal.Distances.{MeasuredTo, Measured, upTo, metresBy, chargeBy, chargesBy}
+use Rattle.charges.specs.Internal.Distances.{AddedUpTo, AddedUp, upTo, metresBy, chargeBy, chargesBy}
 use Rattle.charges.proofs.LengthLaws.{plain-metres, ways-make-ring}
 
 -- one link more
-pub measured-none : (lengths distances : List ℕ) → 0 < length distances → MeasuredTo 0 lengths (set distances 0 0)
-measured-none lengths distances h k l =
+pub added-up-none : (lengths distances : List ℕ) → 0 < length distances → AddedUpTo 0 lengths (set distances 0 0)
+added-up-none lengths distances h k l =
     let first : k ≡ 0 = omega arith in
     rw first (getD-set-same distances 0 0 0 h)
 
-pub measured-next : (lengths distances : List ℕ) (i metres : ℕ) → i + 1 < length distances → MeasuredTo i lengths distances
-    → metres ≡ total (take (i + 1) lengths) → MeasuredTo (i + 1) lengths (set distances (i + 1) metres)
-measured-next lengths distances i metres h before e k l = elim (compare k (i + 1)) [
+pub added-up-next : (lengths distances : List ℕ) (i metres : ℕ) → i + 1 < length distances → AddedUpTo i lengths distances
+    → metres ≡ total (take (i + 1) lengths) → AddedUpTo (i + 1) lengths (set distances (i + 1) metres)
+added-up-next lengths distances i metres h before e k l = elim (compare k (i + 1)) [
   | less m t ↦ getD-set-other distances (i + 1) k metres 0 (λ q. omega arith) ∙ before k (omega arith)
   | not-less m t ↦
       let last : k ≡ i + 1 = omega arith in
       rw last (getD-set-same distances (i + 1) metres 0 h ∙ e)
 ]
 
-module _ (lengths distances : List ℕ) (m : Measured lengths distances) (few : length lengths ≤ 256) where
+module _ (lengths distances : List ℕ) (m : AddedUp lengths distances) (few : length lengths ≤ 256) where
   up-to-total : (node : ℕ) → upTo distances node ≡ total (take node lengths)
   up-to-total node = m (min node 256) (omega arith) ∙ elim (compare node 256) [
     | less h t ↦ let same : min node 256 ≡ node = omega arith in ap (λ (k : ℕ). total (take k lengths)) same

@@ -1,6 +1,6 @@
 // What an order pays, and what the live orders of a book pay together.
+use super::lengths::add_up;
 use super::lengths::lengths_verdict;
-use super::lengths::measure;
 use super::lengths::way_metres;
 use super::rates::Rates;
 use super::rates::cents;
@@ -96,7 +96,7 @@ fn shown_charge(order: ShowAnswer, lengths: &[u32], rates: &[u32]) -> u64
         return 0;
     };
     let mut distances = [0u32; 257];
-    measure(lengths, &mut distances);
+    add_up(lengths, &mut distances);
     circuit_charge(circuit, rates_in(rates), &distances)
 }
 
@@ -125,6 +125,6 @@ pub fn book_charge(book: Book, lengths: &[u32], rates: &[u32]) -> ChargeAnswer
         return ChargeAnswer::Refused(refusal);
     }
     let mut distances = [0u32; 257];
-    measure(lengths, &mut distances);
+    add_up(lengths, &mut distances);
     ChargeAnswer::Charged(live_charges(book, rates_in(rates), &distances))
 }

@@ -13,7 +13,7 @@ ghost use mathlib.Core.Bool.{false};
 ghost use Prim.Native.Nat.{min};
 ghost use lib.ListN.{length, getD};
 ghost use Rattle.charges.specs.Lengths.{someOutside, lengthsVerdict};
-ghost use Rattle.charges.specs.Internal.Distances.{Measured, upTo, metresBy};
+ghost use Rattle.charges.specs.Internal.Distances.{AddedUp, upTo, metresBy};
 
 // 29, for any number of lengths but n, or a length not 1 to 1,000,000.
 pub fn lengths_verdict(n: u16, lengths: &[u32]) -> Verdict
@@ -39,9 +39,9 @@ fn length_at(lengths: &[u32], link: usize) -> u32
 
 // Puts the metres from node 0 up to each node into its entry, so that those of any way are a difference of two. Past the last link all
 // entries are the length of the ring.
-pub fn measure(lengths: &[u32], distances: &mut [u32; 257])
+pub fn add_up(lengths: &[u32], distances: &mut [u32; 257])
     requires { ⌜ (someOutside 1 1000000 (now lengths) ≡ false) × (length (now distances) ≡ 257) ⌝ }
-    ensures { λ _. ⌜ Measured (now (lengths .entry)) (now (distances .exit)) ⌝ }
+    ensures { λ _. ⌜ AddedUp (now (lengths .entry)) (now (distances .exit)) ⌝ }
 {
     let mut metres: u32 = 0;
     let mut i: usize = 0;

@@ -13,7 +13,7 @@ use Rattle.book.specs.declared.books.Book.{Book}
 use Rattle.book.specs.Books.{liveOf}
 use Rattle.charges.specs.declared.rates.Rates.{Rates}
 use Rattle.charges.specs.Rates.{ratesIn}
-use Rattle.charges.specs.Internal.Distances.{Measured, chargeBy, chargesBy}
+use Rattle.charges.specs.Internal.Distances.{AddedUp, chargeBy, chargesBy}
 use Rattle.charges.proofs.DistanceLaws.{charge-by, charges-by}
 use Rattle.book_replies.specs.Replies.{linesWith}
 use Rattle.charges_text.specs.Layout.{paidLine, orderLine, chargesText}
@@ -37,7 +37,7 @@ line-short rates distances c =
     rw (← paid-behind (decimal (c .serial)) (chargeBy rates distances c), length-append) (omega arith)
 
 -- by the lengths
-module _ (lengths distances : List ℕ) (m : Measured lengths distances) (few : length lengths ≤ 256) (rates : List ℕ) where
+module _ (lengths distances : List ℕ) (m : AddedUp lengths distances) (few : length lengths ≤ 256) (rates : List ℕ) where
   lines-by : (cs : List Circuit) → linesWith (lineBy (ratesIn rates) distances) cs ≡ linesWith (orderLine lengths rates) cs
   lines-by [] = refl
   lines-by (c ∷ cs) = rw (charge-by lengths distances m few rates c, lines-by cs) refl

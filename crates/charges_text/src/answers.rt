@@ -5,7 +5,7 @@ use super::reading::read;
 use book::Book;
 use book_replies::replies::put_refused;
 use charges::charges::tariff_verdict;
-use charges::lengths::measure;
+use charges::lengths::add_up;
 use charges::rates::rates_in;
 use ring::Refusal;
 use ring::refusals::Verdict;
@@ -31,7 +31,7 @@ fn put_answer(out: &mut [u8], book: Book, lengths: &[u32], rates: &[u32]) -> usi
         return put_refused(out, 0, refusal);
     }
     let mut distances = [0u32; 257];
-    measure(lengths, &mut distances);
+    add_up(lengths, &mut distances);
     put_charges(out, book, rates_in(rates), &distances)
 }
 

@@ -13,12 +13,12 @@ use Rattle.charges.specs.Rates.{cents}
 use Rattle.charges.specs.Promises.{total}
 
 -- the entries up to i are distances of these lengths: entry k is the sum of those of the links below k, as far as there are links
-abbrev pub MeasuredTo : ℕ → List ℕ → List ℕ → Type 0
-MeasuredTo i lengths distances = (k : ℕ) → k ≤ i → getD distances k 0 ≡ total (take k lengths)
+abbrev pub AddedUpTo : ℕ → List ℕ → List ℕ → Type 0
+AddedUpTo i lengths distances = (k : ℕ) → k ≤ i → getD distances k 0 ≡ total (take k lengths)
 
 -- all 257 entries are
-abbrev pub Measured : List ℕ → List ℕ → Type 0
-Measured lengths distances = MeasuredTo 256 lengths distances
+abbrev pub AddedUp : List ℕ → List ℕ → Type 0
+AddedUp lengths distances = AddedUpTo 256 lengths distances
 
 -- the metres up to a node
 abbrev pub upTo : List ℕ → ℕ → ℕ

@@ -24,8 +24,8 @@ returns c =
 enum-told : tie.Need-enum-told
 enum-told c = search needs
 
-measure-requires : tie.Need-measure-requires
-measure-requires c κs =
+add-up-requires : tie.Need-add-up-requires
+add-up-requires c κs =
     let tariff = c .before .before .before in
     let s = tariff .before .before .before .args in
     let allowed = tariff-allowed (s .book .n) (s .lengths .now) (s .rates .now)
@@ -46,8 +46,8 @@ returns-2 : tie.Need-returns-2
 unfolding bookCharged
 returns-2 c =
     let rates = c .before .before in
-    let measured = rates .before in
-    let told = measured .before .before in
+    let added = rates .before in
+    let told = added .before .before in
     let tariff = told .before .before in
     let s = tariff .before .before .before .args in
     let allowed = tariff-allowed (s .book .n) (s .lengths .now) (s .rates .now)
@@ -55,7 +55,7 @@ returns-2 c =
     promise-charged (s .book) (chargesOf (s .lengths .now) (s .rates .now) (liveOf (s .book))) (tariff .tariff-verdict .ensures)
     (told .enum-told .given .1)
     (λ v. c .live-charges .ensures
-    ∙ rw (rates .rates-in .ensures) (charges-by (s .lengths .now) _ (measured .measure .ensures)
+    ∙ rw (rates .rates-in .ensures) (charges-by (s .lengths .now) _ (added .add-up .ensures)
     (tariff-few (s .book) (s .lengths .now) (s .rates .now) allowed v) (s .rates .now) (liveOf (s .book))))
 
 pub book-charge-spec : {M : Type 1} → statement M
@@ -66,7 +66,7 @@ book-charge-spec =
     enum-known-verdict
     returns
     enum-told
-    measure-requires
+    add-up-requires
     rates-in-requires
     live-charges-requires
     returns-2)

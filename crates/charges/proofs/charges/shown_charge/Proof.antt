@@ -13,8 +13,8 @@ enum-told c = search needs
 returns : tie.Need-returns
 returns c = λ h. rw (c .enum-told .given .1) refl
 
-measure-requires : tie.Need-measure-requires
-measure-requires c κs = search needs
+add-up-requires : tie.Need-add-up-requires
+add-up-requires c κs = search needs
 
 rates-in-requires : tie.Need-rates-in-requires
 rates-in-requires c κs = search needs
@@ -25,11 +25,11 @@ circuit-charge-requires c κs = search needs
 returns-2 : tie.Need-returns-2
 returns-2 c = λ h.
     let rates = c .before .before in
-    let measured = rates .before in
-    let known = measured .before .before .before in
+    let added = rates .before in
+    let known = added .before .before .before in
     let s = known .before .before .before .before .args in
     rw (known .order .given .1) (c .circuit-charge .ensures .0
-    ∙ rw (rates .rates-in .ensures) (charge-by (s .lengths .now) _ (measured .measure .ensures) h (s .rates .now) _))
+    ∙ rw (rates .rates-in .ensures) (charge-by (s .lengths .now) _ (added .add-up .ensures) h (s .rates .now) _))
 
 pub shown-charge-spec : {M : Type 1} → statement M
 shown-charge-spec =
@@ -38,7 +38,7 @@ shown-charge-spec =
     enum-known-order
     enum-told
     returns
-    measure-requires
+    add-up-requires
     rates-in-requires
     circuit-charge-requires
     returns-2)

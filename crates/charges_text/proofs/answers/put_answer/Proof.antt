@@ -27,8 +27,8 @@ returns c =
 enum-told : tie.Need-enum-told
 enum-told c = search needs
 
-measure-requires : tie.Need-measure-requires
-measure-requires c κs =
+add-up-requires : tie.Need-add-up-requires
+add-up-requires c κs =
     let tariff = c .before .before .before in
     let s = tariff .before .before .before .before .args in
     let allowed = tariff-allowed (s .book .n) (s .lengths .now) (s .rates .now)
@@ -53,8 +53,8 @@ returns-2 : tie.Need-returns-2
 returns-2 c =
     let put = c .before .before in
     let rates = put .before .before in
-    let measured = rates .before .before in
-    let told = measured .before .before in
+    let added = rates .before .before in
+    let told = added .before .before in
     let tariff = told .before .before in
     let start = tariff .before .before .before .before in
     let s = start .args in
@@ -62,7 +62,7 @@ returns-2 c =
     (sym (tariff .tariff-verdict .ensures) ∙ told .enum-told .given .1) in
     let few = tariff-few (s .book) (s .lengths .now) (s .rates .now) allowed (start .pre .1) in
     rw (← tariff .tariff-verdict .ensures, told .enum-told .given .1)
-    (wrote-charges (s .lengths .now) _ (measured .measure .ensures) few (s .rates .now) (s .book) (rates .rates-in .ensures)
+    (wrote-charges (s .lengths .now) _ (added .add-up .ensures) few (s .rates .now) (s .book) (rates .rates-in .ensures)
     (put .put-charges .ensures))
 
 pub put-answer-spec : {M : Type 1} → statement M
@@ -75,7 +75,7 @@ put-answer-spec =
     same-length
     returns
     enum-told
-    measure-requires
+    add-up-requires
     rates-in-requires
     put-charges-requires
     same-length-2

@@ -5,14 +5,14 @@ use lib.ListN.{length, take, length-set}
 use borrow.Author.Needs.{needs}
 use Rattle.charges.specs.Promises.{total}
 use Rattle.charges.proofs.LengthLaws.{none-above, total-next, total-most}
-use Rattle.charges.specs.Internal.Distances.{MeasuredTo}
-use Rattle.charges.proofs.DistanceLaws.{measured-none, measured-next}
-use Rattle.charges.proofs.lengths.measure.Statement.{statement}
-use Rattle.charges.proofs.lengths.measure.Tie as tie
+use Rattle.charges.specs.Internal.Distances.{AddedUpTo}
+use Rattle.charges.proofs.DistanceLaws.{added-up-none, added-up-next}
+use Rattle.charges.proofs.lengths.add_up.Statement.{statement}
+use Rattle.charges.proofs.lengths.add_up.Tie as tie
 
 abbrev Inv-loop : tie.InvT-loop
 Inv-loop lengths distances₀ metres₀ i₀ distances metres i =
-    (i ≤ 256) × (length distances ≡ 257) × (metres ≡ total (take i lengths)) × MeasuredTo i lengths distances
+    (i ≤ 256) × (length distances ≡ 257) × (metres ≡ total (take i lengths)) × AddedUpTo i lengths distances
 
 abbrev μ-loop : tie.MeasureT-loop
 μ-loop lengths distances₀ metres₀ i₀ distances metres i = 256 - i
@@ -23,7 +23,7 @@ element-write-distances c = search needs
 loop-holds : tie.Need-loop-holds Inv-loop μ-loop
 loop-holds c =
     let s = c .before .args in
-    (omega arith, simp length-set (c .before .pre .1), refl, measured-none (s .lengths .now) (s .distances .now) (omega arith))
+    (omega arith, simp length-set (c .before .pre .1), refl, added-up-none (s .lengths .now) (s .distances .now) (omega arith))
 
 length-at-requires : tie.Need-length-at-requires Inv-loop μ-loop
 length-at-requires c κs = search needs
@@ -60,7 +60,7 @@ loop-again c =
       omega arith,
       simp length-set (l .inv .1),
       more,
-      measured-next (s .lengths .now) (l .distances) (l .i) (l .metres + c .length-at .result) (omega (arith, l .inv .1)) (l .inv .3) more,
+      added-up-next (s .lengths .now) (l .distances) (l .i) (l .metres + c .length-at .result) (omega (arith, l .inv .1)) (l .inv .3) more,
     )
 
 returns : tie.Need-returns Inv-loop μ-loop
@@ -68,8 +68,8 @@ returns c =
     let l = c .before .loop in
     λ k h. l .inv .3 k (omega arith)
 
-pub measure-spec : {M : Type 1} → statement M
-measure-spec =
+pub add-up-spec : {M : Type 1} → statement M
+add-up-spec =
     tie.close
     (tie.spec
     Inv-loop
