@@ -94,7 +94,7 @@ module _ (adj : ℕ → ℕ → Bool) (symmetric : Symmetric adj) (M : ℕ → �
       pub absorbed_row_is_row : adj p q ≡ true → IsRow adj (absorbed_row M s p q v) (fixed M r v)
       absorbed_row_is_row a =
           combined_row_is_row adj symmetric M (s.row p) (s.row q) (D v) r p q v (I.rows p ep) (I.rows q eq) vp vq (cc (eqb_refl v))
-          (apart_by_even s.label q v (cc) (cc)) (λ z b. I.row-Below v p z ov ep vp b) (λ z b. I.row_away v q z ov eq vq b)
+          (apart_by_even s.label q v (cc) (cc)) (λ z b. I.row_below v p z ov ep vp b) (λ z b. I.row_away v q z ov eq vq b)
           (eqb-true (s.row q v) (M v) (stays (cc))) (closed v ov) a (exposed_is_root adj M r s I p ep) (exposed_is_root adj M r s I q eq)
         where
           stays : not (eqb (s.row q v) (M v)) ≡ false → eqb (s.row q v) (M v) ≡ true

@@ -4,7 +4,7 @@ ghost use Rattle.ring.specs.Fates.{way_number, fate_number, fate_of};
 
 use super::ways::Way;
 
-#[derive(Drop)]
+#[derive(Clone, Copy)]
 pub enum Fate {
     Blocked,
     Served(Way, u16),

@@ -1,4 +1,6 @@
 // The vocabulary of the ring planner and the ring book: rings, requests, ways, fates, refusals.
+#![tactic(auto)]
+
 pub mod buffers;
 pub mod fates;
 pub mod flags;

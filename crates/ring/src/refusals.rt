@@ -2,7 +2,7 @@
 ghost use Rattle.std.specs.Prelude.{◌≡◌};
 ghost use Rattle.ring.specs.Refusals.{number_of, carried_by, refuse_if, or_else};
 
-#[derive(Drop)]
+#[derive(Clone, Copy)]
 pub enum Refusal {
     NodeCount,
     ColourCount,
@@ -39,14 +39,14 @@ pub enum Refusal {
 }
 
 // Whether a ground is there: the first one in the order of the rules, or none.
-#[derive(Drop)]
+#[derive(Clone, Copy)]
 pub enum Verdict {
     Allowed,
     Refused(Refusal),
 }
 
 // The values that a refusal carries.
-#[derive(Drop)]
+#[derive(Clone, Copy)]
 pub enum Carried {
     None,
     One(u16),

@@ -9,7 +9,7 @@ use super::refusals::{Refusal, Verdict, or_else, refuse_if};
 use super::rings::{Ring, RingAnswer};
 
 // Two nodes that talk both ways: a is the smaller, b the larger.
-#[derive(Drop)]
+#[derive(Clone, Copy)]
 pub struct Request {
     pub a: u16,
     pub b: u16,

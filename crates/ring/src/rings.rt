@@ -4,13 +4,13 @@ ghost use Rattle.ring.specs.Admission.{ring_answer};
 
 use super::refusals::Refusal;
 
-#[derive(Drop)]
+#[derive(Clone, Copy)]
 pub struct Ring {
     pub nodes: u16,
     pub colours: u16,
 }
 
-#[derive(Drop)]
+#[derive(Clone, Copy)]
 pub enum RingAnswer {
     Made(Ring),
     Refused(Refusal),

@@ -9,7 +9,7 @@ use super::numbers::{larger, smaller};
 use super::requests::Request;
 
 // The two ways of a request {a, b}: links a to b - 1, or all the others.
-#[derive(Drop)]
+#[derive(Clone, Copy)]
 pub enum Way {
     Plain,
     Seam,

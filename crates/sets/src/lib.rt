@@ -1,4 +1,6 @@
 // Sets of numbers below 512, as eight words of 64 bits: number z is bit z % 64 of word z / 64.
+#![tactic(auto)]
+
 ghost use Rattle.std.specs.Prelude.{◌≡◌, true, false, ◌||◌, ℕ, ◌<◌, ◌≤◌, eqb, length};
 ghost use Rattle.sets.specs.Sets.{bit, has};
 
