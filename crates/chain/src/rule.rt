@@ -4,7 +4,7 @@ ghost use Rattle.chain.specs.Rule.{pick, with_pick, Below};
 ghost use Rattle.chain.specs.Internal.Walk.{Greatest, FirstWith, InUse, used_after};
 
 // A colour, or none.
-#[derive(Drop)]
+#[derive(Clone, Copy)]
 pub enum Pick {
     Colour(usize),
     Nothing,

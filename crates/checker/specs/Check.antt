@@ -22,8 +22,8 @@ SharingTest = Way → Request → Way → Request → Bool
 
 -- the first of a ground's refusals, among `count` requests from number i on
 unfoldable pub first_ground : (ℕ → Verdict) → ℕ → ℕ → Verdict
-first_ground ground i zero = Allowed
-first_ground ground i (suc count) = or_else (ground i) (first_ground ground (i + 1) count)
+first_ground verdict_of i zero = Allowed
+first_ground verdict_of i (suc count) = or_else (verdict_of i) (first_ground verdict_of (i + 1) count)
 
 -- "7 a number above 2w", of request i
 unfoldable pub number_verdict : ℕ → List ℕ → ℕ → Verdict

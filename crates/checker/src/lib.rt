@@ -1,4 +1,6 @@
 // The check of a plan: whether fate numbers are a feasible plan for a list of requests, and how many it serves.
+#![tactic(auto)]
+
 ghost use Rattle.std.specs.Prelude.{◌≡◌, true, ◌+◌, ◌*◌, ◌≤◌, ◌<◌, length, get_or};
 ghost use Rattle.ring.specs.declared.fates.Fate.TheVariants.{Served};
 ghost use Rattle.ring.specs.declared.refusals.Verdict.TheVariants.{Allowed};
@@ -18,7 +20,7 @@ use ring::rings::RingAnswer;
 use ring::ways::ways_share;
 use ring::{Fate, Refusal, Request, Way};
 
-#[derive(Drop)]
+#[derive(Clone, Copy)]
 pub enum CheckAnswer {
     Passed(u16),
     Refused(Refusal),

@@ -1,4 +1,6 @@
 // The links that are held in each colour: 256 links as four words of 64 bits, link z as bit z % 64 of word z / 64.
+#![tactic(auto)]
+
 ghost use Rattle.std.specs.Prelude.{◌≡◌, ◌&&◌, ℕ, ◌+◌, ◌*◌, ◌<◌, eqb, ltb};
 ghost use Rattle.std.specs.Int.Bits.{bit_and};
 ghost use Rattle.ring.specs.Ways.{uses};

@@ -77,7 +77,7 @@ module _ (R : List Request) (r : ℕ) (s : Arrays) (rows : List (List ℕ)) (sta
   row_outside x z e h = S.row_is x z e ∙ entry_outside m (get_or rows x []) z h
 
   pub label_inside : (z : ℕ) → z < m → state.label z ≡ label_of (get_or s.labels z 0)
-  label_inside z h = S.Label-is z ∙ label_at_inside m s.labels z h
+  label_inside z h = S.label_is z ∙ label_at_inside m s.labels z h
 
   pub below_arrays : (v z : ℕ) → v < m → z < m → below_in rows s.labels s.mates v z ≡ below M state v z
   unfolding below_in

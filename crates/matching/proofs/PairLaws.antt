@@ -10,7 +10,7 @@ use lib.ListN.{length, get_or, take}
 use lib.Seq.{get_or-take, length-take-le}
 use borrow.Author.Tests.{eqb-false, eq-eqb, ne_eqb, ltb-true, le-leb, lt-leb}
 use Rattle.ring.specs.declared.requests.Request.{Request}
-use Rattle.ring.specs.Chords.{inside, compatible}
+use Rattle.ring.specs.Chords.{compatible}
 use Rattle.ring.specs.Matchings.{Pair, pair, request_numbers, NoTwice, IsMatching, IsMaximum}
 use Rattle.ring.specs.Requests.{request}
 use Rattle.ring.proofs.Cases.{yes, no, is, Apart, same, different, eqb_refl, test, less, not_less, compare, apart, impossible}

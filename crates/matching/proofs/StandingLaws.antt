@@ -34,14 +34,14 @@ mate_inside R r s rows T z h =
 
 module _ (R : List Request) (s : Arrays) (rows : List (List ℕ)) (state : State) (S : Stands R s rows state) where
   pub even_inside : (z : ℕ) → state.label z ≡ Even → z < length R
-  even_inside z e = not_free_inside (length R) s.labels z (cc (S.Label-is z))
+  even_inside z e = not_free_inside (length R) s.labels z (cc (S.label_is z))
 
   pub odd_inside : (z : ℕ) → state.label z ≡ Odd → z < length R
-  odd_inside z e = not_free_inside (length R) s.labels z (cc (S.Label-is z))
+  odd_inside z e = not_free_inside (length R) s.labels z (cc (S.label_is z))
 
   -- the label of a vertex below m, by its number
   pub label_number : (z n : ℕ) → z < length R → get_or s.labels z 0 ≡ n → state.label z ≡ label_of n
-  label_number z n h e = cc (S.Label-is z, label_at_inside (length R) s.labels z h)
+  label_number z n h e = cc (S.label_is z, label_at_inside (length R) s.labels z h)
 
   -- there is room in the queue as long as a vertex is not even
   pub clock_room : (z : ℕ) → z < length R → even? (state.label z) ≡ false → s.clock < length R

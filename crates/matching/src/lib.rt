@@ -1,4 +1,6 @@
 // A maximum matching among compatible requests, by a search for blossoms that keeps for each even vertex a whole matching, its row.
+#![tactic(auto)]
+
 pub mod blossoms;
 pub mod climbs;
 pub mod counts;

@@ -6,7 +6,7 @@ ghost use Rattle.matching.specs.Internal.Steps.{grown_row, Attachable, Attached}
 use ring::numbers::wide;
 
 // What a part of a search leaves: how many vertices are queued, and whether it has enlarged the matching.
-#[derive(Drop)]
+#[derive(Clone, Copy)]
 pub struct Progress {
     pub clock: usize,
     pub done: bool,

@@ -1,4 +1,6 @@
 // The set of the requests that are compatible with a request, from sets kept for each node.
+#![tactic(auto)]
+
 ghost use Rattle.std.specs.Prelude.{◌≡◌, not, ℕ, ◌<◌, ◌≤◌, eqb, length};
 ghost use Rattle.ring.specs.Requests.{requests_of, ValidRequests};
 ghost use Rattle.sets.specs.Sets.{bit};

@@ -2,7 +2,7 @@
 use ring::Refusal;
 
 // The part that the plan is.
-#[derive(Drop)]
+#[derive(Clone, Copy)]
 pub enum Part {
     Chain,
     Pair,
@@ -10,7 +10,7 @@ pub enum Part {
 
 // chain: the requests that the chain part serves. matched: the match count. paired: the requests that the pair part serves. ceiling: no
 // feasible plan serves more.
-#[derive(Drop)]
+#[derive(Clone, Copy)]
 pub struct Summary {
     pub chain: u16,
     pub matched: u16,
@@ -20,7 +20,7 @@ pub struct Summary {
 }
 
 // The counts, the part used and the ceiling, or the ground on which the call is turned down.
-#[derive(Drop)]
+#[derive(Clone, Copy)]
 pub enum PlanAnswer {
     Planned(Summary),
     Refused(Refusal),

@@ -1,0 +1,16 @@
+-- `search_all`: a search settles its root, and `settle_alone` all requests up to the next one.
+use Prim.Native.Nat.{◌-◌}
+use mathlib.Core.Path.{◌≡◌}
+use lib.ListN.{length}
+use Rattle.ring.specs.Requests.{requests_of}
+use Rattle.matching.specs.Internal.Progress.{Rooted}
+use Rattle.matching.specs.Internal.Search.{Square}
+use Rattle.matching.proofs.roots.search_all.Given as goal
+
+abbrev pub invariant-loop-r : goal.invariant-loop-r
+invariant-loop-r l =
+    Rooted (requests_of l.ends) l.sets l.mates l.labels l.bases l.r l.m × Square l.m l.rows × (length l.parents ≡ 512) × (length l.queue ≡ 512)
+    × (length l.rows ≡ length l.initial.rows)
+
+abbrev pub decreases-loop-r : goal.decreases-loop-r
+decreases-loop-r l = l.m - l.r
