@@ -22,7 +22,7 @@ use Rattle.book.specs.Books.{records_of, book_of, Valid}
 use Rattle.book.specs.Removals.{with_record, removed}
 use Rattle.book.specs.Confirmations.{without_circuit, confirmed}
 use Rattle.book.specs.Holders.{holder_in, holder_verdict, holder_unless, held_by}
-use Rattle.book.specs.History.{Event, run, history, Live, Pending, given, Holding, AfterHistory, EveryHistory}
+use Rattle.book.specs.History.{Event, run, history, Pending, given, Holding, AfterHistory, EveryHistory}
 use Rattle.book.proofs.Opening.{opened_book}
 use Rattle.book.proofs.Forms.{records_form, record_form}
 use Rattle.book.proofs.ConflictLaws.{true_and}

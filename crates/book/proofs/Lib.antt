@@ -13,7 +13,6 @@ pub mod Outcomes
 pub mod Marks
 pub mod Shifts
 pub mod Searches
-pub mod Lending
 pub mod ConflictLaws
 pub mod Verdicts
 pub mod Granting

@@ -11,7 +11,6 @@ use Rattle.ring.specs.declared.refusals.Verdict.TheVariants as verdict
 use Rattle.ring.specs.Admission.{ring_verdict, ring_unless, ring_answer}
 use Rattle.ring.proofs.AdmissionLaws.{RingLimits, ring_limits}
 use Rattle.book.specs.declared.books.OpenAnswer.TheVariants as answer
-use Rattle.book.specs.declared.books.Opened.{Opened}
 use Rattle.book.specs.Books.{book_of, open_unless, opened, Valid}
 
 made : (v : Verdict) (n w : ℕ) (r : Ring) → ring_unless v n w ≡ ring.Made r

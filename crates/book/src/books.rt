@@ -7,7 +7,7 @@ use ring::numbers::wide;
 use ring::rings::RingAnswer;
 use ring::{Refusal, Ring};
 
-#[derive(Drop)]
+#[derive(Clone, Copy)]
 pub struct Book {
     pub n: u16,
     pub w: u16,
@@ -16,13 +16,13 @@ pub struct Book {
     pub places: [Circuit; 512],
 }
 
-#[derive(Drop)]
+#[derive(Clone, Copy)]
 pub enum OpenAnswer {
     Opened,
     Refused(Refusal),
 }
 
-#[derive(Drop)]
+#[derive(Clone, Copy)]
 pub struct Opened {
     pub answer: OpenAnswer,
     pub book: Book,

@@ -7,7 +7,7 @@ use ring::ways::uses;
 use ring::{Request, Way};
 
 // A live circuit, or one that was removed and still shines until its pull is confirmed.
-#[derive(Drop)]
+#[derive(Clone, Copy)]
 pub enum RecordState {
     Live,
     Pending,
@@ -15,7 +15,7 @@ pub enum RecordState {
 
 // The serial, the two ends with the smaller as a, the way, the state, the colour and the crew. Way and state lie side by side: a record has
 // 12 bytes and none to spare.
-#[derive(Drop)]
+#[derive(Clone, Copy)]
 pub struct Circuit {
     pub serial: u16,
     pub a: u16,

@@ -9,13 +9,13 @@ use super::orders::{Lookup, look_up, never_given};
 use ring::Refusal;
 use ring::numbers::narrow;
 
-#[derive(Drop)]
+#[derive(Clone, Copy)]
 pub enum ConfirmAnswer {
     Confirmed,
     Refused(Refusal),
 }
 
-#[derive(Drop)]
+#[derive(Clone, Copy)]
 pub struct Confirmed {
     pub answer: ConfirmAnswer,
     pub book: Book,

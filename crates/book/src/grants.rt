@@ -15,13 +15,13 @@ use ring::requests::ends_verdict;
 use ring::ways::ways_share;
 use ring::{Refusal, Request, Way};
 
-#[derive(Drop)]
+#[derive(Clone, Copy)]
 pub enum GrantAnswer {
     Granted(u16),
     Refused(Refusal),
 }
 
-#[derive(Drop)]
+#[derive(Clone, Copy)]
 pub struct Granted {
     pub answer: GrantAnswer,
     pub book: Book,

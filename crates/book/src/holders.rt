@@ -11,7 +11,7 @@ use ring::flags::either;
 use ring::refusals::{Verdict, or_else, refuse_if};
 
 // Held without the serial is what a crew learns of an order that is not its own, or not live.
-#[derive(Drop)]
+#[derive(Clone, Copy)]
 pub enum HolderAnswer {
     Free,
     Held,

@@ -1,4 +1,6 @@
 // The ring book: which circuits are live or pending, by which ways, in which colours, under which serials.
+#![tactic(auto)]
+
 pub mod books;
 pub mod circuits;
 pub mod confirmations;

@@ -11,13 +11,13 @@ use ring::flags::either;
 use ring::refusals::Verdict;
 
 // The record of an order, with its place.
-#[derive(Drop)]
+#[derive(Clone, Copy)]
 pub enum Lookup {
     Found(usize, Circuit),
     Missing,
 }
 
-#[derive(Drop)]
+#[derive(Clone, Copy)]
 pub enum ShowAnswer {
     Shown(Circuit),
     Refused(Refusal),

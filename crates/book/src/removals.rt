@@ -7,13 +7,13 @@ use super::circuits::as_pending;
 use super::orders::{Lookup, look_up_live, missing};
 use ring::Refusal;
 
-#[derive(Drop)]
+#[derive(Clone, Copy)]
 pub enum RemoveAnswer {
     Removed,
     Refused(Refusal),
 }
 
-#[derive(Drop)]
+#[derive(Clone, Copy)]
 pub struct Removed {
     pub answer: RemoveAnswer,
     pub book: Book,

@@ -3,7 +3,7 @@ ghost use Rattle.std.specs.Prelude.{List, [], ◌∷◌, ◌++◌};
 ghost use Rattle.bundles.specs.Internal.Bundles.{Bundled};
 
 // A grant that is asked for: two ends in any order, the way (0 plain, 1 seam), the colour, the crew.
-#[derive(Drop)]
+#[derive(Clone, Copy)]
 pub struct Line {
     pub x: u16,
     pub y: u16,
@@ -13,7 +13,7 @@ pub struct Line {
 }
 
 // Room for 16 lines, and their number as the caller gives it.
-#[derive(Drop)]
+#[derive(Clone, Copy)]
 pub struct Bundle {
     pub count: usize,
     pub lines: [Line; 16],

@@ -1,4 +1,6 @@
 // Bundles of grants, and what they would come to.
+#![tactic(auto)]
+
 pub mod bundles;
 pub mod previews;
 

@@ -11,7 +11,7 @@ use ring::numbers::wide;
 use ring::refusals::{Verdict, refuse_if};
 
 // Every line would be granted; or this line, counted from 0, would be turned down; or no line was looked at.
-#[derive(Drop)]
+#[derive(Clone, Copy)]
 pub enum PreviewAnswer {
     AllGranted,
     Stopped(u16, Refusal),
@@ -19,7 +19,7 @@ pub enum PreviewAnswer {
 }
 
 // The answer, and the serials that the lines would get: so many, and zeros behind them.
-#[derive(Drop)]
+#[derive(Clone, Copy)]
 pub struct Previewed {
     pub answer: PreviewAnswer,
     pub count: u16,

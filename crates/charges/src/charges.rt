@@ -14,7 +14,7 @@ use book::{Book, Circuit, show};
 use ring::Refusal;
 use ring::refusals::{Verdict, or_else};
 
-#[derive(Drop)]
+#[derive(Clone, Copy)]
 pub enum ChargeAnswer {
     Charged(u64),
     Refused(Refusal),

@@ -8,7 +8,7 @@ use ring::flags::either;
 use ring::refusals::{Verdict, refuse_if};
 
 // Cents per kilometre: for the first 50,000 metres of a way, from there to 200,000, and beyond.
-#[derive(Drop)]
+#[derive(Clone, Copy)]
 pub struct Rates {
     pub first: u32,
     pub second: u32,

@@ -8,7 +8,6 @@ use Rattle.stored.specs.declared.stores.StoreAnswer.{StoreAnswer}
 use Rattle.stored.specs.declared.stores.StoreAnswer.TheVariants.{Refused}
 use Rattle.stored.specs.declared.loads.LoadAnswer.{LoadAnswer}
 use Rattle.stored.specs.declared.loads.LoadAnswer.TheVariants as answer
-use Rattle.stored.specs.declared.loads.Loaded.{Loaded}
 use Rattle.stored.specs.Storing.{form_answer, after_form}
 use Rattle.stored.specs.Loading.{loaded, loaded_old}
 

@@ -7,7 +7,6 @@ use Rattle.book.specs.Revisions.{revision, NotShown}
 use Rattle.book.specs.History.{Call, run, history, was_removed, AfterHistory}
 use Rattle.stored.specs.declared.forms.Form.TheVariants.{New}
 use Rattle.stored.specs.declared.loads.LoadAnswer.TheVariants as answer
-use Rattle.stored.specs.declared.loads.Loaded.{Loaded}
 use Rattle.stored.specs.Forms.{stored_form}
 use Rattle.stored.specs.Loading.{loaded}
 

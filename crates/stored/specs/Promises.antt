@@ -6,7 +6,6 @@ use Rattle.book.specs.Books.{has_marked, book_of, Valid}
 use Rattle.book.specs.Revisions.{revision}
 use Rattle.stored.specs.declared.forms.Form.TheVariants.{Old, New}
 use Rattle.stored.specs.declared.loads.LoadAnswer.TheVariants as answer
-use Rattle.stored.specs.declared.loads.Loaded.{Loaded}
 use Rattle.stored.specs.declared.stores.StoreAnswer.TheVariants.{Stored}
 use Rattle.stored.specs.Forms.{stored_form}
 use Rattle.stored.specs.Storing.{length_of}

@@ -4,7 +4,7 @@ ghost use Rattle.stored.specs.Forms.{block_records, first_record, form_mark, lon
 ghost use Rattle.stored.specs.Reading.{record_place};
 
 // The old form has no room for states and crews.
-#[derive(Drop)]
+#[derive(Clone, Copy)]
 pub enum Form {
     Old,
     New,

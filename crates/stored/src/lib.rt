@@ -1,4 +1,6 @@
 // The stored forms of a ring book: store, load, and the conversions between them.
+#![tactic(auto)]
+
 pub mod blocks;
 pub mod conversions;
 pub mod forms;

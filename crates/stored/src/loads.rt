@@ -20,13 +20,13 @@ use ring::buffers::same_bytes;
 use ring::flags::{both, either};
 use ring::refusals::{Verdict, or_else, refuse_if};
 
-#[derive(Drop)]
+#[derive(Clone, Copy)]
 pub enum LoadAnswer {
     Loaded,
     Refused(Refusal),
 }
 
-#[derive(Drop)]
+#[derive(Clone, Copy)]
 pub struct Loaded {
     pub answer: LoadAnswer,
     pub book: Book,

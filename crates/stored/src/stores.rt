@@ -19,7 +19,7 @@ use ring::fates::way_number;
 use ring::numbers::narrow;
 use ring::{Refusal, Way};
 
-#[derive(Drop)]
+#[derive(Clone, Copy)]
 pub enum StoreAnswer {
     Stored(u16),
     Refused(Refusal),
@@ -147,6 +147,7 @@ pub fn store(book: Book, buffer: &mut [u8]) -> StoreAnswer
 }
 
 // Writes the old form of a book whose records are live and the desk's: its length, or refusal 25 or 17 with nothing written.
+#[tactic(auto, unfolding(crate::specs::Storing::store_old_answer, crate::specs::Storing::after_store_old))]
 pub fn store_old(book: Book, buffer: &mut [u8]) -> StoreAnswer
     ensures { (result ≡ store_old_answer book buffer.old)
         × (buffer.new ≡ after_store_old book buffer.old) }

@@ -1,0 +1,40 @@
+use mathlib.Core.Path.{refl, sym, ◌∙◌}
+use native.Mathlib.Omega.{arith}
+use Rattle.book.specs.Internal.Conflicts.{conflict_in}
+use Rattle.book.proofs.Searches.{some_found, some_passed, some_ended}
+use Rattle.book.proofs.grants.colour_held.Goals as goal
+
+pub loop-i-init : goal.loop-i-init
+loop-i-init c = (omega arith, refl)
+
+pub offset_bounds-book-i : goal.offset_bounds-book-i
+offset_bounds-book-i c = omega arith
+
+pub bounds-book-i : goal.bounds-book-i
+bounds-book-i c = omega arith
+
+pub returns-then-conflicts : goal.returns-then-conflicts
+unfolding conflict_in
+returns-then-conflicts c =
+    sym (c.loop-i.invariant.1 ∙ some_found c.args.book _ c.loop-i.i (omega arith)
+    (sym c.conflicts.ensures ∙ c.if-conflicts.true))
+
+pub overflow_add-i : goal.overflow_add-i
+overflow_add-i c = omega arith
+
+pub loop-i-smaller : goal.loop-i-smaller
+loop-i-smaller c = omega arith
+
+pub loop-i-preserved : goal.loop-i-preserved
+unfolding conflict_in
+loop-i-preserved c = (
+  omega arith,
+  c.loop-i.invariant.1
+      ∙ some_passed c.args.book _ c.loop-i.i (omega arith) (sym c.conflicts.ensures
+      ∙ c.if-conflicts.false),
+)
+
+pub returns : goal.returns
+unfolding conflict_in
+returns c =
+    sym (c.loop-i.invariant.1 ∙ some_ended c.args.book _ c.loop-i.i (omega arith))

@@ -1,0 +1,155 @@
+use Prim.Native.Nat.{◌≤◌, ◌-◌, ◌+◌, ◌*◌}
+use mathlib.Core.Path.{◌≡◌, refl, sym, ◌∙◌, ap}
+use mathlib.Core.List.{◌++◌}
+use native.Mathlib.Omega.{arith}
+use lib.ListN.{length, drop, length-append, length-drop}
+use lib.Seq.{length-take-le}
+use borrow.Rule.Slice.PartMut.{put_mid, same_len_mid}
+use Rattle.book.specs.Books.{records_of}
+use Rattle.stored.specs.Forms.{blocks, stored_length}
+use Rattle.stored.specs.Storing.{length_of}
+use Rattle.stored.proofs.FormLaws.{later_begun, later_few, longest_small}
+use Rattle.stored.proofs.StoreLaws.{part_length, stored_block_length, blocks_length, first_block, started, block_next, store_short}
+use Rattle.stored.proofs.StoreLaws.{store_answer_lem, store_done}
+use Rattle.stored.proofs.stores.write_form.Goals as goal
+
+pub returns-then-buffer-length : goal.returns-then-buffer-length
+returns-then-buffer-length c =
+    let whole_is : c.stored_length-length.result ≡ length_of c.args.form c.args.book =
+    c.stored_length-length.ensures ∙ ap (stored_length c.args.form) c.record_count-count.ensures.0 in
+    let s = c.args in
+    store_short s.form s.book s.buffer.now (omega (arith, whole_is))
+
+pub write_header-requires : goal.write_header-requires
+write_header-requires c =
+    let s = c.args in
+    length-take-le 512 s.buffer.now (omega (arith, c.stored_length-length.ensures))
+
+pub loop-block-init : goal.loop-block-init
+loop-block-init c =
+    let front_is : c.write_header.new.block ≡ blocks c.args.form c.args.book 1 =
+    let s = c.args in
+    first_block s.form s.book c.narrow.result c.form_mark.result
+    c.write_header.new.block
+    (c.narrow.ensures ∙ c.record_count-count.ensures.0) c.form_mark.ensures c.write_header.ensures in
+    let start_length : length (c.write_header.new.block ++ drop 512 c.args.buffer.now) ≡ length c.args.buffer.now =
+    let s = c.args in
+    let h : 512 ≤ length s.buffer.now = omega (
+      arith,
+      c.stored_length-length.ensures,
+      c.if-buffer-length.false,
+    ) in
+    omega (
+      arith,
+      length-append c.write_header.new.block (drop 512 s.buffer.now),
+      length-drop 512 s.buffer.now,
+      ap length front_is,
+      blocks_length s.form s.book 1,
+    ) in
+    let s = c.args in (
+      omega arith,
+      omega (arith, c.stored_length-length.ensures),
+      omega (arith, start_length, c.if-buffer-length.false),
+      refl,
+      started s.form s.book c.write_header.new.block (drop 512 s.buffer.now) front_is,
+    )
+
+pub write_records-requires : goal.write_records-requires
+write_records-requires c =
+    let whole_is : c.stored_length-length.result ≡ length_of c.args.form c.args.book =
+    c.stored_length-length.ensures ∙ ap (stored_length c.args.form) c.record_count-count.ensures.0 in
+    let whole_few : c.stored_length-length.result ≤ 7168 =
+    let form = c.args.form in
+    omega (
+      arith,
+      c.stored_length-length.ensures,
+      later_few form c.record_count-count.result c.record_count-count.ensures.1,
+      longest_small form,
+    ) in
+    let l = c.loop-block in
+    let s = c.args in
+    let whole = whole_is in
+    record {
+      size = part_length l.buffer (l.block * 512) (omega (
+        arith,
+        c.stored_length-length.ensures,
+      ));
+      from = omega arith;
+      to = omega (arith, whole_few);
+      filled = later_begun s.form (length (records_of s.book)) (l.block - 1) (omega arith);
+    }
+
+pub loop-block-preserved : goal.loop-block-preserved
+loop-block-preserved c =
+    let l = c.loop-block in
+    let s = c.args in
+    let new = c.write_records.new.block in
+    let whole = c.stored_length-length.ensures in
+    let room : l.block * 512 + 512 ≤ length l.buffer = omega arith in
+    let same : length (put_mid (l.block * 512) (l.block * 512 + 512 - l.block * 512) l.buffer new) ≡ length l.buffer =
+    same_len_mid (l.block * 512) (l.block * 512 + 512 - l.block * 512) l.buffer new
+    (ap length c.write_records.ensures ∙ stored_block_length s.form s.book l.block
+    ∙ sym (part_length l.buffer (l.block * 512) room))
+    in (
+      omega arith,
+      omega arith,
+      omega arith,
+      same ∙ l.invariant.3,
+      block_next s.form s.book l.buffer _ new l.block l.invariant.4 c.write_records.ensures,
+    )
+
+pub narrow-requires-2 : goal.narrow-requires-2
+narrow-requires-2 c =
+    let whole_few : c.stored_length-length.result ≤ 7168 =
+    let form = c.args.form in
+    omega (
+      arith,
+      c.stored_length-length.ensures,
+      later_few form c.record_count-count.result c.record_count-count.ensures.1,
+      longest_small form,
+    ) in
+    omega (arith, whole_few)
+
+pub shape_of-buffer : goal.shape_of-buffer
+shape_of-buffer c =
+    let front_is : c.write_header.new.block ≡ blocks c.args.form c.args.book 1 =
+    let s = c.args in
+    first_block s.form s.book c.narrow.result c.form_mark.result
+    c.write_header.new.block
+    (c.narrow.ensures ∙ c.record_count-count.ensures.0) c.form_mark.ensures c.write_header.ensures in
+    let start_length : length (c.write_header.new.block ++ drop 512 c.args.buffer.now) ≡ length c.args.buffer.now =
+    let s = c.args in
+    let h : 512 ≤ length s.buffer.now = omega (
+      arith,
+      c.stored_length-length.ensures,
+      c.if-buffer-length.false,
+    ) in
+    omega (
+      arith,
+      length-append c.write_header.new.block (drop 512 s.buffer.now),
+      length-drop 512 s.buffer.now,
+      ap length front_is,
+      blocks_length s.form s.book 1,
+    ) in
+    let e = start_length in
+    c.loop-block.invariant.3 ∙ e
+
+pub returns : goal.returns
+returns c =
+    let whole_is : c.stored_length-length.result ≡ length_of c.args.form c.args.book =
+    c.stored_length-length.ensures ∙ ap (stored_length c.args.form) c.record_count-count.ensures.0 in
+    let front_is : c.write_header.new.block ≡ blocks c.args.form c.args.book 1 =
+    let s = c.args in
+    first_block s.form s.book c.narrow.result c.form_mark.result
+    c.write_header.new.block
+    (c.narrow.ensures ∙ c.record_count-count.ensures.0) c.form_mark.ensures c.write_header.ensures in
+    let s = c.args in
+    let l = c.loop-block in
+    let whole = whole_is in
+    let room : length_of s.form s.book ≤ length s.buffer.now = omega
+    (arith, c.if-buffer-length.false) in (
+      store_answer_lem s.form s.book s.buffer.now c.narrow-2.result (c.narrow-2.ensures ∙ whole) room,
+      store_done s.form s.book l.buffer s.buffer.now c.write_header.new.block
+          l.block
+          (omega arith) room (ap length front_is ∙ blocks_length s.form s.book 1) l.invariant.4,
+    )
