@@ -21,7 +21,7 @@ use Rattle.book_lines.specs.declared.numbers.CrewedAt.{CrewedAt}
 use Rattle.book_lines.specs.declared.numbers.CrewedAt.TheVariants as crewedAt
 use Rattle.book_lines.specs.declared.asking.AskedAt.{AskedAt}
 use Rattle.book_lines.specs.declared.asking.AskedAt.TheVariants as askedAt
-use Rattle.book_lines.specs.Lines.{comma, Asked, broken, asked, asked_of, behind_comma, lines_from, bundle_of, on_lines}
+use Rattle.book_lines.specs.Lines.{comma, broken, asked, asked_of, behind_comma, lines_from, bundle_of, on_lines}
 use Rattle.book_lines.specs.Lines.{unreadable, grant_of, preview_of}
 use Rattle.book_lines.specs.Internal.Asking.{CrewedRead, asked_in, AskedRead}
 use Rattle.book_lines.proofs.NumberLaws.{crewed_none, crewed_found, crewed_within}

@@ -10,7 +10,7 @@ use bundles::{Bundle, Line};
 use texts::fields::{FieldAt, field};
 
 // A line of a bundle, and the position behind the byte that closes it.
-#[derive(Drop)]
+#[derive(Clone, Copy)]
 pub enum AskedAt {
     Broken,
     Asked(Line, usize),

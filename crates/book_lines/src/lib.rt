@@ -1,4 +1,6 @@
 // What a line that is typed at the desk says.
+#![tactic(auto)]
+
 pub mod asking;
 pub mod lines;
 pub mod numbers;

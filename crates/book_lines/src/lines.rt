@@ -11,7 +11,7 @@ use bundles::Bundle;
 use ring::buffers::same_bytes;
 use texts::fields::{FieldAt, field};
 
-#[derive(Drop)]
+#[derive(Clone, Copy)]
 pub enum Command {
     Open(u16, u16),
     Grant(u16, u16, u16, u16, u16),
@@ -28,7 +28,7 @@ pub enum Command {
 }
 
 // A line that asks nothing of the book.
-#[derive(Drop)]
+#[derive(Clone, Copy)]
 pub enum Aside {
     Help,
     Nothing,
@@ -38,7 +38,7 @@ pub enum Aside {
 }
 
 // The command of a line, and how many bytes the line has with its spaces squeezed.
-#[derive(Drop)]
+#[derive(Clone, Copy)]
 pub struct Heard {
     pub command: Command,
     pub length: usize,

@@ -6,21 +6,21 @@ ghost use Rattle.book_lines.specs.Internal.Asking.{CrewedRead};
 use texts::fields::{FieldAt, LineAt, field, line};
 
 // One number, and nothing behind it.
-#[derive(Drop)]
+#[derive(Clone, Copy)]
 pub enum Single {
     Broken,
     One(u16),
 }
 
 // Two numbers, and nothing behind them.
-#[derive(Drop)]
+#[derive(Clone, Copy)]
 pub enum Pair {
     Broken,
     Two(u16, u16),
 }
 
 // A number, its crew, and the position behind the byte that closes them.
-#[derive(Drop)]
+#[derive(Clone, Copy)]
 pub enum CrewedAt {
     Missing,
     Found(u16, u16, usize),

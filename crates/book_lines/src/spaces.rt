@@ -6,7 +6,7 @@ ghost use Rattle.book_lines.specs.Internal.Squeezing.{Added};
 use ring::flags::both;
 
 // How many bytes are in the text, and 1 where spaces came since the last word.
-#[derive(Drop)]
+#[derive(Clone, Copy)]
 pub struct Squeezing {
     pub size: usize,
     pub gap: usize,

@@ -1,4 +1,6 @@
 // What the desk is told, and the text of it.
+#![tactic(auto)]
+
 pub mod replies;
 
 pub use replies::Reply;

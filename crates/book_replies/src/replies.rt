@@ -22,7 +22,7 @@ use texts::grounds::put_ground;
 use texts::words::{put_labelled, put_way};
 use texts::writing::{put, put_byte, put_long};
 
-#[derive(Drop)]
+#[derive(Clone, Copy)]
 pub enum Reply {
     Opened(u16, u16),
     Granted(u16),

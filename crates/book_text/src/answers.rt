@@ -18,7 +18,7 @@ use ring::Refusal;
 use stored::loads::{LoadAnswer, load_either};
 
 // There is no file, or no book can be read from it, or it holds a book.
-#[derive(Drop)]
+#[derive(Clone, Copy)]
 pub enum State {
     Absent,
     Broken(Refusal),
@@ -26,14 +26,14 @@ pub enum State {
 }
 
 // What a file holds: the book, or in its place a book of no nodes.
-#[derive(Drop)]
+#[derive(Clone, Copy)]
 pub struct Contents {
     pub state: State,
     pub book: Book,
 }
 
 // The reply, whether the book changed, and the book.
-#[derive(Drop)]
+#[derive(Clone, Copy)]
 pub struct Answered {
     pub reply: Reply,
     pub changes: bool,

@@ -1,4 +1,6 @@
 // The book's commands: what a line does by what the file holds, and what answers it.
+#![tactic(auto)]
+
 pub mod answers;
 pub mod obeying;
 

@@ -16,7 +16,7 @@ use stored::stores::write_form;
 use stored::{Form, StoreAnswer};
 
 // What a line needs of the file: nothing, its bytes, or to put others in their place.
-#[derive(Drop)]
+#[derive(Clone, Copy)]
 pub enum Need {
     Nothing,
     Reading,
@@ -24,7 +24,7 @@ pub enum Need {
 }
 
 // The length of the answer and, if the file is to change, that of its new bytes.
-#[derive(Drop)]
+#[derive(Clone, Copy)]
 pub struct Obeyed {
     pub changes: bool,
     pub reply: usize,

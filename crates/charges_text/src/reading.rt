@@ -5,14 +5,14 @@ ghost use Rattle.charges_text.specs.Internal.Positions.{LengthsRead, ReadingRead
 use texts::fields::{LongAt, long_field};
 
 // How many lengths were read.
-#[derive(Drop)]
+#[derive(Clone, Copy)]
 pub enum LengthsAt {
     Unfit,
     All(usize),
 }
 
 // The three rates, and how many lengths were read.
-#[derive(Drop)]
+#[derive(Clone, Copy)]
 pub enum ReadingAt {
     Unreadable,
     Readable(u32, u32, u32, usize),

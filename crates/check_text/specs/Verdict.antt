@@ -17,8 +17,8 @@ carried_text (Two first second) = labelled (bytes " ") first ++ labelled (bytes 
 
 -- "`refused`, its number and the values that the refusal carries"
 unfoldable pub refusal_line : Refusal → List ℕ
-refusal_line ground =
-    labelled (bytes "refused ") (number_of ground) ++ (carried_text (carried_by ground) ++ bytes "\n")
+refusal_line refusal =
+    labelled (bytes "refused ") (number_of refusal) ++ (carried_text (carried_by refusal) ++ bytes "\n")
 
 -- "`served` and the number served"
 unfoldable pub served_line : ℕ → List ℕ
@@ -27,4 +27,4 @@ served_line served = labelled (bytes "served ") served ++ bytes "\n"
 -- "It prints one line": that of an answer of the check
 abbrev pub verdict_line : CheckAnswer → List ℕ
 verdict_line (check.Passed served) = served_line served
-verdict_line (check.Refused ground) = refusal_line ground
+verdict_line (check.Refused refusal) = refusal_line refusal

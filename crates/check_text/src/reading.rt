@@ -7,7 +7,7 @@ use plan_text::reading::{HeadingAt, LinesAt, heading, request_lines};
 use texts::fields::{FieldAt, field};
 
 // n, w, and how many ends and fate numbers were read.
-#[derive(Drop)]
+#[derive(Clone, Copy)]
 pub enum ReadingAt {
     Unreadable,
     Readable(u16, u16, usize, usize),

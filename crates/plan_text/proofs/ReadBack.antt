@@ -36,6 +36,7 @@ pub lines_read : (ends sofar : List ℕ) (m : ℕ) (text : List ℕ) → Ends en
     → lines_from sofar m (lines_text ends text) ≡ all (sofar ++ ends) text
 lines_read [] sofar zero text empty s = ap (λ (l : List ℕ). all l text) (sym (append-nil sofar))
 lines_read [] sofar (suc m) text empty s = absurd (omega arith)
+lines_read (x ∷ []) sofar m text e s = elim e [ ]
 lines_read (x ∷ y ∷ ends) sofar zero text (more hx hy e) s = absurd (omega arith)
 lines_read (x ∷ y ∷ ends) sofar (suc m) text (more hx hy e) s =
     rw (line_read x y (lines_text ends text) hx hy)

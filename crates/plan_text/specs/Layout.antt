@@ -56,4 +56,4 @@ refused_line number = labelled (bytes "refused ") number ++ bytes "\n"
 -- the whole output for an answer of plan: m requests, whose fates the first m entries of the table are
 unfoldable pub answer_text : ℕ → ℕ → ℕ → PlanAnswer → List ℕ → List ℕ
 answer_text n w m (answer.Planned counts) table = plan_text n w m counts (fates_of (take m table))
-answer_text n w m (answer.Refused ground) table = refused_line (number_of ground)
+answer_text n w m (answer.Refused refusal) table = refused_line (number_of refusal)

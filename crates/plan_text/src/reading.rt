@@ -5,21 +5,21 @@ ghost use Rattle.plan_text.specs.Internal.Positions.{HeadingRead, LinesFitIn, Li
 use texts::fields::{FieldAt, LineAt, field, line};
 
 // The first line, and the position behind it.
-#[derive(Drop)]
+#[derive(Clone, Copy)]
 pub enum HeadingAt {
     Missing,
     Numbers(u16, u16, u16, usize),
 }
 
 // How many numbers the lines have, and the position behind them.
-#[derive(Drop)]
+#[derive(Clone, Copy)]
 pub enum LinesAt {
     Unfit,
     All(usize, usize),
 }
 
 // n, w and how many ends were read.
-#[derive(Drop)]
+#[derive(Clone, Copy)]
 pub enum ReadingAt {
     Unreadable,
     Readable(u16, u16, usize),

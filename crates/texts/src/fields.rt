@@ -4,21 +4,21 @@ ghost use Rattle.texts.specs.Fields.{one_more, closes};
 ghost use Rattle.texts.specs.Internal.Positions.{LongRead, FieldRead, LineRead};
 
 // A number of 32 bits, and the position behind the byte that closes it.
-#[derive(Drop)]
+#[derive(Clone, Copy)]
 pub enum LongAt {
     Missing,
     Found(u32, usize),
 }
 
 // A number, and the position behind the byte that closes it.
-#[derive(Drop)]
+#[derive(Clone, Copy)]
 pub enum FieldAt {
     Missing,
     Found(u16, usize),
 }
 
 // A line of two ends, and the position behind it.
-#[derive(Drop)]
+#[derive(Clone, Copy)]
 pub enum LineAt {
     Broken,
     Ends(u16, u16, usize),

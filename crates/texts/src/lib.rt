@@ -1,4 +1,6 @@
 // What all texts are made of: words, numbers and grounds, written into buffers and read from positions.
+#![tactic(auto)]
+
 pub mod fields;
 pub mod grounds;
 pub mod words;

@@ -1,5 +1,5 @@
 -- What the functions inside find at positions of a text, read as the texts behind those positions.
-use Rattle.std.specs.Prelude.{ℕ, ◌≤◌, ◌≡◌, List, [], ◌∷◌, length, take, drop}
+use Rattle.std.specs.Prelude.{ℕ, ◌≤◌, ◌≡◌, List, [], ◌∷◌, take, drop}
 use Rattle.charges_text.specs.Reading.{Lines, unfit, all, lengths_of, Reading, unreadable, readable, reading_of}
 use Rattle.charges_text.specs.declared.reading.LengthsAt.{LengthsAt}
 use Rattle.charges_text.specs.declared.reading.LengthsAt.TheVariants as lengthsAt

@@ -1,0 +1,13 @@
+use mathlib.Core.Path.{◌∙◌, subst}
+use Rattle.texts.specs.Internal.Writing.{Wrote}
+use Rattle.bundles.specs.declared.previews.Previewed.{Previewed}
+use Rattle.bundles.proofs.BundleLaws.{bundle_says}
+use Rattle.book_replies.specs.Replies.{preview_text}
+use Rattle.book_replies.proofs.replies.put_tried.Goals as goal
+
+pub returns : goal.returns
+returns c =
+    let says = c.preview-tried.ensures.valid c.requires.1
+    ∙ bundle_says c.args.book c.bundle_in-bundle.result _ c.bundle_in-bundle.ensures in
+    subst (λ (p : Previewed). Wrote c.args.out.now 0 (preview_text p) c.put_preview.new.out c.put_preview.result) says
+    c.put_preview.ensures
