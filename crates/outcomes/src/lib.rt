@@ -1,4 +1,6 @@
 // What operations come to, in numbers: results, and values in slices that a caller lends.
+#![tactic(auto)]
+
 pub mod changes;
 pub mod charging;
 pub mod previews;
