@@ -16,186 +16,191 @@ use ring::refusals::number;
 use ring::requests::call_answer;
 use ring::rings::RingAnswer;
 use ring::{Refusal, Ring};
+use std::io::Print;
 
-pub fn write(text: &[u8]) {
-    io::write_all(1, text);
+pub fn write<R: Print>(rt: &R, text: &[u8]) {
+    let _ = rt.write_all(text);
 }
 
-fn write_number(text: &[u8], x: u16) {
-    io::write_all(1, text);
-    io::print_decimal(1, x as u64);
+fn write_number<R: Print>(rt: &R, text: &[u8], x: u16) {
+    write(rt, text);
+    let _ = rt.print(x);
 }
 
-fn write_refusal(refusal: Refusal) {
-    write_number(b"refused ", number(refusal));
-    write(b"\n");
+fn write_count<R: Print>(rt: &R, count: usize) {
+    let _ = rt.print(count);
 }
 
-fn write_part(part: Part) {
+fn write_refusal<R: Print>(rt: &R, refusal: Refusal) {
+    write_number(rt, b"refused ", number(refusal));
+    write(rt, b"\n");
+}
+
+fn write_part<R: Print>(rt: &R, part: Part) {
     match part {
-        Part::Chain => write(b" used chain"),
-        Part::Pair => write(b" used pair"),
+        Part::Chain => write(rt, b" used chain"),
+        Part::Pair => write(rt, b" used pair"),
     }
 }
 
 // Line 2 of the planning program.
-fn write_summary(summary: Summary) {
-    write_number(b"chain ", summary.chain);
-    write_number(b" match ", summary.matched);
-    write_number(b" pair ", summary.paired);
+fn write_summary<R: Print>(rt: &R, summary: Summary) {
+    write_number(rt, b"chain ", summary.chain);
+    write_number(rt, b" match ", summary.matched);
+    write_number(rt, b" pair ", summary.paired);
     let used = summary.used;
-    write_part(used);
-    write_number(b" ceiling ", summary.ceiling);
-    write(b"\n");
+    write_part(rt, used);
+    write_number(rt, b" ceiling ", summary.ceiling);
+    write(rt, b"\n");
 }
 
 // The numbers of a table, in one line.
-fn write_table(table: &[u16]) {
-    write(b"table");
+fn write_table<R: Print>(rt: &R, table: &[u16]) {
+    write(rt, b"table");
     let mut i: usize = 0;
     while i < table.len() {
-        write_number(b" ", table[i]);
+        write_number(rt, b" ", table[i]);
         i += 1;
     }
-    write(b"\n");
+    write(rt, b"\n");
 }
 
-fn write_call(name: &[u8], n: u16, w: u16, m: usize) {
-    write_number(name, n);
-    write_number(b" ", w);
-    write(b" ");
-    io::print_decimal(1, m as u64);
-    write(b": ");
+fn write_call<R: Print>(rt: &R, name: &[u8], n: u16, w: u16, m: usize) {
+    write_number(rt, name, n);
+    write_number(rt, b" ", w);
+    write(rt, b" ");
+    write_count(rt, m);
+    write(rt, b": ");
 }
 
-pub fn show_plan(n: u16, w: u16, ends: &[u16], table: &mut [u16]) {
-    write_call(b"plan ", n, w, ends.len() / 2);
+pub fn show_plan<R: Print>(rt: &R, n: u16, w: u16, ends: &[u16], table: &mut [u16]) {
+    write_call(rt, b"plan ", n, w, ends.len() / 2);
     let answer = plan(n, w, ends, table);
     match answer {
         PlanAnswer::Planned(summary) => {
-            write_summary(summary);
-            write_table(table);
+            write_summary(rt, summary);
+            write_table(rt, table);
         }
-        PlanAnswer::Refused(refusal) => write_refusal(refusal),
+        PlanAnswer::Refused(refusal) => write_refusal(rt, refusal),
     }
 }
 
 // How many pairs the matching has that the searches start from.
-fn write_start(ring: Ring, ends: &[u16])
+fn write_start<R: Print>(rt: &R, ring: Ring, ends: &[u16])
     requires { (ring.nodes ≤ 256) × ValidRequests ring.nodes (requests_of ends.now) }
 {
     let none = [0u64; 8];
     let mut sets = [none; 257];
     prefixes(ends, &mut sets);
     let first = start(ends, &sets, ends.len() / 2);
-    write_call(b"start ", ring.nodes, ring.colours, ends.len() / 2);
-    io::print_decimal(1, first.size as u64);
-    write(b"\n");
+    write_call(rt, b"start ", ring.nodes, ring.colours, ends.len() / 2);
+    write_count(rt, first.size);
+    write(rt, b"\n");
 }
 
-pub fn show_start(n: u16, w: u16, ends: &[u16]) {
+pub fn show_start<R: Print>(rt: &R, n: u16, w: u16, ends: &[u16]) {
     let admitted = call_answer(n, w, ends, ends.len() / 2);
     match admitted {
-        RingAnswer::Made(ring) => write_start(ring, ends),
-        RingAnswer::Refused(refusal) => write_refusal(refusal),
+        RingAnswer::Made(ring) => write_start(rt, ring, ends),
+        RingAnswer::Refused(refusal) => write_refusal(rt, refusal),
     }
 }
 
-pub fn show_check(n: u16, w: u16, ends: &[u16], table: &[u16]) {
-    write_call(b"check ", n, w, ends.len() / 2);
+pub fn show_check<R: Print>(rt: &R, n: u16, w: u16, ends: &[u16], table: &[u16]) {
+    write_call(rt, b"check ", n, w, ends.len() / 2);
     let answer = check(n, w, ends, table);
     match answer {
         CheckAnswer::Passed(count) => {
-            write_number(b"passed ", count);
-            write(b"\n");
+            write_number(rt, b"passed ", count);
+            write(rt, b"\n");
         }
-        CheckAnswer::Refused(refusal) => write_refusal(refusal),
+        CheckAnswer::Refused(refusal) => write_refusal(rt, refusal),
     }
 }
 
-pub fn show_open(n: u16, w: u16) {
-    write_number(b"open ", n);
-    write_number(b" ", w);
-    write(b": ");
+pub fn show_open<R: Print>(rt: &R, n: u16, w: u16) {
+    write_number(rt, b"open ", n);
+    write_number(rt, b" ", w);
+    write(rt, b": ");
     let opened = open(n, w);
     let answer = opened.answer;
     match answer {
-        OpenAnswer::Opened => write(b"opened\n"),
-        OpenAnswer::Refused(refusal) => write_refusal(refusal),
+        OpenAnswer::Opened => write(rt, b"opened\n"),
+        OpenAnswer::Refused(refusal) => write_refusal(rt, refusal),
     }
 }
 
-fn write_grant(answer: GrantAnswer) {
+fn write_grant<R: Print>(rt: &R, answer: GrantAnswer) {
     match answer {
         GrantAnswer::Granted(serial) => {
-            write_number(b"grant: ", serial);
-            write(b"\n");
+            write_number(rt, b"grant: ", serial);
+            write(rt, b"\n");
         }
         GrantAnswer::Refused(refusal) => {
-            write(b"grant: ");
-            write_refusal(refusal);
+            write(rt, b"grant: ");
+            write_refusal(rt, refusal);
         }
     }
 }
 
 // A grant in colour 0, the desk's, and the book after it.
-pub fn show_grant(book: Book, x: u16, y: u16, way: u16) -> Book {
+pub fn show_grant<R: Print>(rt: &R, book: Book, x: u16, y: u16, way: u16) -> Book {
     let granted = grant(book, x, y, way, 0, 0);
     let answer = granted.answer;
-    write_grant(answer);
+    write_grant(rt, answer);
     granted.book
 }
 
-fn write_removal(answer: RemoveAnswer) {
+fn write_removal<R: Print>(rt: &R, answer: RemoveAnswer) {
     match answer {
-        RemoveAnswer::Removed => write(b"remove: removed\n"),
+        RemoveAnswer::Removed => write(rt, b"remove: removed\n"),
         RemoveAnswer::Refused(refusal) => {
-            write(b"remove: ");
-            write_refusal(refusal);
+            write(rt, b"remove: ");
+            write_refusal(rt, refusal);
         }
     }
 }
 
 // A removal, and the book after it.
-pub fn show_removal(book: Book, serial: u16) -> Book {
+pub fn show_removal<R: Print>(rt: &R, book: Book, serial: u16) -> Book {
     let removed = remove(book, serial);
     let answer = removed.answer;
-    write_removal(answer);
+    write_removal(rt, answer);
     removed.book
 }
 
-fn write_confirmation(answer: ConfirmAnswer) {
+fn write_confirmation<R: Print>(rt: &R, answer: ConfirmAnswer) {
     match answer {
-        ConfirmAnswer::Confirmed => write(b"confirm: confirmed\n"),
+        ConfirmAnswer::Confirmed => write(rt, b"confirm: confirmed\n"),
         ConfirmAnswer::Refused(refusal) => {
-            write(b"confirm: ");
-            write_refusal(refusal);
+            write(rt, b"confirm: ");
+            write_refusal(rt, refusal);
         }
     }
 }
 
 // A confirmation, and the book after it.
-pub fn show_confirmation(book: Book, serial: u16) -> Book {
+pub fn show_confirmation<R: Print>(rt: &R, book: Book, serial: u16) -> Book {
     let confirmed = confirm(book, serial);
     let answer = confirmed.answer;
-    write_confirmation(answer);
+    write_confirmation(rt, answer);
     confirmed.book
 }
 
 // The holder of colour 0 on a link, as the desk reads it, which always learns the serial.
-pub fn show_holder(book: Book, link: u16) {
-    write_number(b"link ", link);
+pub fn show_holder<R: Print>(rt: &R, book: Book, link: u16) {
+    write_number(rt, b"link ", link);
     let answer = holder(book, link, 0, 0);
     match answer {
-        HolderAnswer::Free => write(b": free\n"),
-        HolderAnswer::Held => write(b": held\n"),
+        HolderAnswer::Free => write(rt, b": free\n"),
+        HolderAnswer::Held => write(rt, b": held\n"),
         HolderAnswer::HeldBy(serial) => {
-            write_number(b": ", serial);
-            write(b"\n");
+            write_number(rt, b": ", serial);
+            write(rt, b"\n");
         }
         HolderAnswer::Refused(refusal) => {
-            write(b": ");
-            write_refusal(refusal);
+            write(rt, b": ");
+            write_refusal(rt, refusal);
         }
     }
 }

@@ -3,25 +3,31 @@
 // The file beside, which only one session can make, is the lock: who made it is alone with the book until it takes the place of the file or
 // is removed. Until the rename nothing is changed, and the file beside is removed on every way out; from then on the name may be another
 // session's, and is left alone.
-use super::failures::{say, say_busy, say_unchanged, say_unsure};
-use super::files::{hear, open_folder};
+use super::failures::{EEXIST, say, say_busy, say_unchanged, say_unsure};
+use super::files::{close, create, hear, open_folder, remove, rename};
 use super::pauses::pause;
+use std::env::Env;
+use std::fs::{Files, OpenFile};
+use std::io::{Eprint, Print, Write};
+use std::rt::Runtime;
+use std::time::Clock;
+use streams::number;
 
 #[derive(Drop)]
-enum Taking {
-    Taken(i32),
+enum Taking<F> {
+    Taken(F),
     Busy,
     Failed(i32),
 }
 
-#[derive(Drop)]
+#[derive(Clone, Copy)]
 enum Stage {
     Done,
     Failed(i32),
 }
 
 // How far the new bytes came: on disk; in the place of the old ones and perhaps not on disk; or nowhere, and what failed.
-#[derive(Drop)]
+#[derive(Clone, Copy)]
 enum Stored {
     OnDisk,
     InPlace(i32),
@@ -31,17 +37,19 @@ enum Stored {
 
 // Makes the file beside. Where it is there already, it looks again for about two seconds. It waits before each try, the first one too, so
 // that a session with many changes to make lets the others in between.
-fn take(beside: &[u8]) -> Taking {
+fn take<R: Files + Clock>(rt: &R, beside: &[u8]) -> Taking<R::File> {
     let mut tries: u32 = 1800;
     while 0 < tries {
-        pause();
-        let fd = os::create(beside);
-        if 0 <= fd {
-            return Taking::Taken(fd);
-        }
-        let error = os::errno();
-        if error != libc::EEXIST {
-            return Taking::Failed(error);
+        pause(rt);
+        let made = create(rt, beside);
+        match made {
+            Ok(file) => return Taking::Taken(file),
+            Err(error) => {
+                let failed = number(error);
+                if failed != EEXIST {
+                    return Taking::Failed(failed);
+                }
+            }
         }
         tries -= 1;
     }
@@ -49,94 +57,111 @@ fn take(beside: &[u8]) -> Taking {
 }
 
 // Closes the file beside and removes it: nothing is changed.
-fn give_back(fd: i32, beside: &[u8]) {
-    libc::close(fd);
-    os::unlink(beside);
+fn give_back<R: Files>(rt: &R, file: R::File, beside: &[u8]) {
+    drop(file);
+    let _ = remove(rt, beside);
 }
 
 // Writes the bytes to the file beside and brings them to disk.
-fn fill(fd: i32, bytes: &[u8]) -> Stage {
-    if !io::write_all(fd, bytes) || libc::fsync(fd) != 0 {
-        let error = os::errno();
-        libc::close(fd);
-        return Stage::Failed(error);
+fn fill<R: Files + Env>(rt: &R, file: R::File, bytes: &[u8]) -> Stage {
+    let mut next = file;
+    if let Err(error) = next.write_all(bytes) {
+        return Stage::Failed(number(error));
     }
-    if libc::close(fd) != 0 {
-        return Stage::Failed(os::errno());
+    if let Err(error) = next.sync_all() {
+        return Stage::Failed(number(error));
+    }
+    let error = close(rt, next);
+    if error != 0 {
+        return Stage::Failed(error);
     }
     Stage::Done
 }
 
 // Puts the file beside in the place of the file, and brings that to disk. The folder is opened first: that it cannot be is found out while
 // nothing is changed.
-fn place(path: &[u8], beside: &[u8]) -> Stored {
-    let folder = open_folder(path);
-    if folder < 0 {
-        return Stored::Unplaced(os::errno());
+fn place<R: Files>(rt: &R, path: &[u8], beside: &[u8]) -> Stored {
+    let folder = match open_folder(rt, path) {
+        Ok(folder) => folder,
+        Err(error) => return Stored::Unplaced(number(error)),
+    };
+    if let Err(error) = rename(rt, beside, path) {
+        return Stored::Unplaced(number(error));
     }
-    if os::rename(beside, path) != 0 {
-        let error = os::errno();
-        libc::close(folder);
-        return Stored::Unplaced(error);
+    if let Err(error) = folder.sync_all() {
+        return Stored::InPlace(number(error));
     }
-    if libc::fsync(folder) != 0 {
-        let error = os::errno();
-        libc::close(folder);
-        return Stored::InPlace(error);
-    }
-    libc::close(folder);
     Stored::OnDisk
 }
 
 // Stores the bytes in the file.
-fn store(fd: i32, path: &[u8], beside: &[u8], bytes: &[u8]) -> Stored {
-    let filled = fill(fd, bytes);
+fn store<R: Files + Env>(
+    rt: &R,
+    file: R::File,
+    path: &[u8],
+    beside: &[u8],
+    bytes: &[u8],
+) -> Stored {
+    let filled = fill(rt, file, bytes);
     if let Stage::Failed(error) = filled {
         return Stored::Unwritten(error);
     }
-    place(path, beside)
+    place(rt, path, beside)
 }
 
 // Stores the bytes, and only then says the reply.
-fn store_and_say(fd: i32, path: &[u8], beside: &[u8], bytes: &[u8], reply: &[u8]) -> bool {
-    let stored = store(fd, path, beside, bytes);
+fn store_and_say<R: Files + Env + Print + Eprint>(
+    rt: &R,
+    file: R::File,
+    path: &[u8],
+    beside: &[u8],
+    bytes: &[u8],
+    reply: &[u8],
+) -> bool {
+    let stored = store(rt, file, path, beside, bytes);
     match stored {
-        Stored::OnDisk => say(reply),
-        Stored::InPlace(error) => say_unsure(path, error),
+        Stored::OnDisk => say(rt, reply),
+        Stored::InPlace(error) => say_unsure(rt, path, error),
         Stored::Unwritten(error) => {
-            os::unlink(beside);
-            say_unchanged(beside, b" cannot be written: ", error)
+            let _ = remove(rt, beside);
+            say_unchanged(rt, beside, b" cannot be written: ", error)
         }
         Stored::Unplaced(error) => {
-            os::unlink(beside);
-            say_unchanged(path, b" cannot be replaced: ", error)
+            let _ = remove(rt, beside);
+            say_unchanged(rt, path, b" cannot be replaced: ", error)
         }
     }
 }
 
 // Obeys the line alone with the book.
-fn change_alone(fd: i32, path: &[u8], beside: &[u8], line: &[u8]) -> bool {
+fn change_alone<R: Files + Env + Print + Eprint>(
+    rt: &R,
+    file: R::File,
+    path: &[u8],
+    beside: &[u8],
+    line: &[u8],
+) -> bool {
     let mut reply = [0u8; 16384];
     let mut form = [0u8; 7168];
-    let heard = hear(path, line, &mut reply, &mut form);
+    let heard = hear(rt, path, line, &mut reply, &mut form);
     let length = heard.reply;
     let size = heard.form;
     if heard.changes {
-        return store_and_say(fd, path, beside, &form[..size], &reply[..length]);
+        return store_and_say(rt, file, path, beside, &form[..size], &reply[..length]);
     }
-    give_back(fd, beside);
+    give_back(rt, file, beside);
     if heard.read {
-        return say(&reply[..length]);
+        return say(rt, &reply[..length]);
     }
-    say_unchanged(path, b" cannot be read: ", heard.error)
+    say_unchanged(rt, path, b" cannot be read: ", heard.error)
 }
 
 // Obeys a line that may change the book, and says the answer.
-pub fn change(path: &[u8], beside: &[u8], line: &[u8]) -> bool {
-    let taking = take(beside);
+pub fn change<R: Runtime>(rt: &R, path: &[u8], beside: &[u8], line: &[u8]) -> bool {
+    let taking = take(rt, beside);
     match taking {
-        Taking::Taken(fd) => change_alone(fd, path, beside, line),
-        Taking::Busy => say_busy(beside),
-        Taking::Failed(error) => say_unchanged(beside, b" cannot be made: ", error),
+        Taking::Taken(file) => change_alone(rt, file, path, beside, line),
+        Taking::Busy => say_busy(rt, beside),
+        Taking::Failed(error) => say_unchanged(rt, beside, b" cannot be made: ", error),
     }
 }

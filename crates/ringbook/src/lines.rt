@@ -3,10 +3,11 @@ ghost use Rattle.std.specs.Prelude.{◌≤◌, length};
 
 use super::failures::say;
 use super::serving::serve;
-use libc::STDIN_FILENO;
+use std::io::Read;
+use std::rt::Runtime;
 
 // How many bytes of the present line are kept, and whether there is more to read.
-#[derive(Drop)]
+#[derive(Clone, Copy)]
 pub struct Turn {
     pub kept: usize,
     pub more: bool,
@@ -25,7 +26,14 @@ fn keep(line: &mut [u8], kept: usize, byte: u8) -> usize
 }
 
 // Takes a byte; the line feed has the line answered. There is no more to read where the answer cannot be said.
-fn take_byte(path: &[u8], beside: &[u8], line: &mut [u8], kept: usize, byte: u8) -> Turn
+fn take_byte<R: Runtime>(
+    rt: &R,
+    path: &[u8],
+    beside: &[u8],
+    line: &mut [u8],
+    kept: usize,
+    byte: u8,
+) -> Turn
     requires { kept ≤ length line.old }
     ensures { result.kept ≤ length line.new }
 {
@@ -36,7 +44,7 @@ fn take_byte(path: &[u8], beside: &[u8], line: &mut [u8], kept: usize, byte: u8)
             more: true,
         };
     }
-    let said = serve(path, beside, &line[..size]);
+    let said = serve(rt, path, beside, &line[..size]);
     Turn {
         kept: 0,
         more: said,
@@ -44,7 +52,14 @@ fn take_byte(path: &[u8], beside: &[u8], line: &mut [u8], kept: usize, byte: u8)
 }
 
 // Takes the bytes that came.
-fn take_in(path: &[u8], beside: &[u8], line: &mut [u8], kept: usize, bytes: &[u8]) -> Turn
+fn take_in<R: Runtime>(
+    rt: &R,
+    path: &[u8],
+    beside: &[u8],
+    line: &mut [u8],
+    kept: usize,
+    bytes: &[u8],
+) -> Turn
     requires { kept ≤ length line.old }
     ensures { result.kept ≤ length line.new }
 {
@@ -52,7 +67,7 @@ fn take_in(path: &[u8], beside: &[u8], line: &mut [u8], kept: usize, bytes: &[u8
     let mut more = true;
     let mut i: usize = 0;
     while i < bytes.len() && more {
-        let turn = take_byte(path, beside, line, size, bytes[i]);
+        let turn = take_byte(rt, path, beside, line, size, bytes[i]);
         size = turn.kept;
         more = turn.more;
         i += 1;
@@ -64,45 +79,52 @@ fn take_in(path: &[u8], beside: &[u8], line: &mut [u8], kept: usize, bytes: &[u8
 }
 
 // Reads once: a terminal gives a line when it is entered.
-fn listen(path: &[u8], beside: &[u8], line: &mut [u8], kept: usize) -> Turn
+fn listen<R: Runtime>(
+    rt: &R,
+    input: &mut R::Reader,
+    path: &[u8],
+    beside: &[u8],
+    line: &mut [u8],
+    kept: usize,
+) -> Turn
     requires { kept ≤ length line.old }
     ensures { result.kept ≤ length line.new }
 {
-    let mut bytes = io::buffer();
-    let got = libc::read(STDIN_FILENO, &mut bytes);
-    if got < 0 {
-        say(b"error the input cannot be read\n");
+    let mut bytes = [0u8; 4096];
+    let got = input.read(&mut bytes);
+    let Ok(count) = got else {
+        say(rt, b"error the input cannot be read\n");
         return Turn {
             kept: 0,
             more: false,
         };
-    }
-    let count = io::count(got, &bytes);
+    };
     if count == 0 {
         return Turn {
             kept: kept,
             more: false,
         };
     }
-    take_in(path, beside, line, kept, &bytes[..count])
+    take_in(rt, path, beside, line, kept, &bytes[..count])
 }
 
 // Answers the lines to the end of the input. Nothing says that an input ends, so the loop counts its turns down, from a number that no run
 // uses up.
-pub fn talk(path: &[u8], beside: &[u8]) {
+pub fn talk<R: Runtime>(rt: &R, path: &[u8], beside: &[u8]) {
+    let mut input = rt.reader();
     // One byte more than a line may have: a longer one shows by it.
     let mut line = [0u8; 1025];
     let mut kept: usize = 0;
     let mut more = true;
     let mut turns = u64::MAX;
     while turns > 0 && more {
-        let turn = listen(path, beside, &mut line, kept);
+        let turn = listen(rt, &mut input, path, beside, &mut line, kept);
         kept = turn.kept;
         more = turn.more;
         turns -= 1;
     }
     // What stands behind the last line feed.
     if 0 < kept {
-        serve(path, beside, &line[..kept]);
+        serve(rt, path, beside, &line[..kept]);
     }
 }

@@ -1,15 +1,8 @@
 // A little time.
-use libc::types::timespec;
+use std::thread;
+use std::time::{Clock, Duration};
 
-// Waits for a thousandth of a second. A signal may end the wait early, which does no harm: whoever waits looks again.
-pub fn pause() {
-    let asked = timespec {
-        tv_sec: 0,
-        tv_nsec: 1000000,
-    };
-    let mut left = timespec {
-        tv_sec: 0,
-        tv_nsec: 0,
-    };
-    libc::nanosleep(&asked, &mut left);
+// Waits for a thousandth of a second.
+pub fn pause<R: Clock>(rt: &R) {
+    thread::sleep(rt, Duration::from_millis(1));
 }

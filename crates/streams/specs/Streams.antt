@@ -5,5 +5,5 @@ use Rattle.streams.specs.declared.Reading.TheVariants.{Failed, Read}
 
 -- what was read stands within a buffer of so many bytes
 abbrev pub ReadFits : ℕ → Reading → Type 0
-ReadFits most Failed = Unit
+ReadFits most (Failed _) = Unit
 ReadFits most (Read length) = length ≤ most

@@ -1,0 +1,9 @@
+-- What was admitted is a ring of at most 256 nodes with valid requests.
+use Rattle.std.proofs.Common.{sym, ◌∙◌}
+use Rattle.planner.proofs.ChoiceLaws.{made_fits}
+use Rattle.cases_run.proofs.answers.show_start.Goals as goal
+
+pub write_start-requires : goal.write_start-requires
+write_start-requires g c =
+    let fits = made_fits _ _ _ _ _ (sym c.call_answer-admitted.ensures ∙ c.in-Made.is) in
+    (fits.ring.nodes_to, fits.list.valid)
