@@ -1,6 +1,6 @@
 /*
  * Tarziloen, the ring planner and ring book: the C interface of the library
- * that `rt staticlib export` writes to target/staticlib/libexport.a.
+ * that `rt lib` writes to crates/export/out/libexport.a.
  *
  * A ring has n nodes, 0 to n-1, and w colours, 0 to w-1. Link i joins node i
  * and node i+1; link n-1, the seam, joins node n-1 and node 0. A request or a

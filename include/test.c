@@ -4,9 +4,9 @@
  * the old form, on charges and on the refusals of a book in a buffer; prints each
  * answer that is another one.
  *
- * From the top folder, after `rt staticlib export`:
+ * From the top folder, after `rt lib` in crates/export:
  *
- *     cc -std=c99 -Wall -Wextra -pedantic -Iinclude include/test.c target/staticlib/libexport.a -o target/test_c && target/test_c
+ *     cc -std=c99 -Wall -Wextra -pedantic -Iinclude include/test.c crates/export/out/libexport.a -o target/test_c && target/test_c
  */
 #include "tarziloen.h"
 

@@ -1,7 +1,7 @@
-// Links the static library of crate `export`, which `rt staticlib export` writes to target/staticlib.
+// Links the static library of crate `export`, which `rt lib` writes to crates/export/out.
 fn main() {
     let top = concat!(env!("CARGO_MANIFEST_DIR"), "/..");
-    println!("cargo:rustc-link-search=native={top}/target/staticlib");
+    println!("cargo:rustc-link-search=native={top}/crates/export/out");
     println!("cargo:rustc-link-lib=static=export");
-    println!("cargo:rerun-if-changed={top}/target/staticlib/libexport.a");
+    println!("cargo:rerun-if-changed={top}/crates/export/out/libexport.a");
 }

@@ -5,7 +5,7 @@ mod reference;
 
 use std::fs;
 use std::os::unix::fs::{symlink, MetadataExt, PermissionsExt};
-use std::os::unix::process::{CommandExt, ExitStatusExt};
+use std::os::unix::process::CommandExt;
 use std::process::{Command, Stdio};
 
 use desk::{busy, refused, run, Folder, NaiveDesk, BOOK_THERE, HELP, NO_BOOK};
@@ -218,16 +218,18 @@ fn output_that_cannot_be_written_ends_the_program() {
     assert_eq!(said, "error the output cannot be written\n");
     let opened = NaiveBook::open(8, 1).unwrap();
     assert_eq!(folder.bytes("book"), Some(encode(&opened)), "and no more");
-    // A pipe that nobody reads.
+    // A pipe that nobody reads: a write to it fails as any other may.
     let mut child = programs::program(&words)
         .stdin(Stdio::piped())
         .stdout(Stdio::piped())
+        .stderr(Stdio::piped())
         .spawn()
         .unwrap();
     drop(child.stdout.take());
     std::io::Write::write_all(&mut child.stdin.take().unwrap(), &input[9..]).unwrap();
-    let status = child.wait().unwrap();
-    assert_eq!(status.signal(), Some(13));
+    let ended = child.wait_with_output().unwrap();
+    assert!(ended.status.success());
+    assert_eq!(String::from_utf8(ended.stderr).unwrap(), said);
     assert_eq!(folder.answer("count\n"), "live 1 grants 1\n");
 }
 

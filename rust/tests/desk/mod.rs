@@ -46,7 +46,7 @@ impl Folder {
 
     /// The program on file `book`.
     pub fn program(&self) -> Command {
-        let program = concat!(env!("CARGO_MANIFEST_DIR"), "/../target/bin/ringbook");
+        let program = concat!(env!("CARGO_MANIFEST_DIR"), "/../crates/ringbook/out/ringbook");
         let mut command = Command::new(program);
         command.current_dir(&self.0);
         command

@@ -7,8 +7,9 @@ use std::process::{Command, Stdio};
 
 /// A program with its words.
 pub fn program(words: &[&str]) -> Command {
-    let folder = concat!(env!("CARGO_MANIFEST_DIR"), "/../target/bin/");
-    let mut command = Command::new(format!("{folder}{}", words[0]));
+    let crates = concat!(env!("CARGO_MANIFEST_DIR"), "/../crates");
+    let name = words[0];
+    let mut command = Command::new(format!("{crates}/{name}/out/{name}"));
     command.args(&words[1..]);
     command
 }
