@@ -33,16 +33,14 @@ pub returns-in-Refused : goal.returns-in-Refused
 unfolding held_for
 returns-in-Refused c =
     let s = c.args in
-    let t : c.or_else-verdict.result ≡ asked s.crew s.book s.link s.colour =
-    tested s.crew s.book s.link s.colour _ _ _ _ _ c.or_else-verdict.ensures c.or_else.ensures c.crew_verdict-crews.ensures
+    let t = tested s.crew s.book s.link s.colour _ _ _ _ _ c.or_else-verdict.ensures c.or_else.ensures c.crew_verdict-crews.ensures
     c.refuse_if-links.ensures c.refuse_if-colours.ensures in
     simp (sym t, c.in-Refused.is)
 
 pub returns-then-place-records : goal.returns-then-place-records
 returns-then-place-records c =
     let s = c.args in
-    let t : c.or_else-verdict.result ≡ asked s.crew s.book s.link s.colour =
-    tested s.crew s.book s.link s.colour _ _ _ _ _ c.or_else-verdict.ensures c.or_else.ensures c.crew_verdict-crews.ensures
+    let t = tested s.crew s.book s.link s.colour _ _ _ _ _ c.or_else-verdict.ensures c.or_else.ensures c.crew_verdict-crews.ensures
     c.refuse_if-links.ensures c.refuse_if-colours.ensures in
     c.told_to.ensures
     ∙ answer_held s.crew s.book s.link s.colour c.holder_search-place.result (sym t ∙ c.in_default.is)
@@ -51,8 +49,7 @@ returns-then-place-records c =
 pub returns-else-place-records : goal.returns-else-place-records
 returns-else-place-records c =
     let s = c.args in
-    let t : c.or_else-verdict.result ≡ asked s.crew s.book s.link s.colour =
-    tested s.crew s.book s.link s.colour _ _ _ _ _ c.or_else-verdict.ensures c.or_else.ensures c.crew_verdict-crews.ensures
+    let t = tested s.crew s.book s.link s.colour _ _ _ _ _ c.or_else-verdict.ensures c.or_else.ensures c.crew_verdict-crews.ensures
     c.refuse_if-links.ensures c.refuse_if-colours.ensures in
     answer_free s.crew s.book s.link s.colour c.holder_search-place.result (sym t ∙ c.in_default.is)
     (place_is s.crew s.book s.link s.colour _ _ c.holder_search-place.ensures c.record_count-records.ensures.0) (omega arith)

@@ -1,7 +1,6 @@
 use mathlib.Core.Path.{sym, ◌∙◌}
 use lib.ListN.{length}
 use Rattle.ring.specs.Requests.{requests_of}
-use Rattle.ring.proofs.AdmissionLaws.{CallLimits}
 use Rattle.ring.proofs.RequestLaws.{valid_on_256}
 use Rattle.matching.specs.Maximum.{pairs_of}
 use Rattle.planner.proofs.MateLaws.{pairs_by_lower}
@@ -10,24 +9,18 @@ use Rattle.planner.proofs.plans.plan.Goals as goal
 
 pub colour-chain-requires : goal.colour-chain-requires
 colour-chain-requires c =
-    let limits : CallLimits c.in-Made.ring.nodes c.in-Made.ring.colours c.args.ends.now (length c.args.table.now) =
-    made_fits c.args.n c.args.w c.args.ends.now (length c.args.table.now) c.in-Made.ring
-    (sym c.call_answer-answer.ensures ∙ c.in-Made.is) in
+    let limits = made_fits c.args.n c.args.w c.args.ends.now (length c.args.table.now) _ (sym c.call_answer-answer.ensures ∙ c.in-Made.is) in
     colourable_if c.in-Made.ring.nodes c.in-Made.ring.colours c.args.ends.now c.args.table.now
     limits
 
 pub maximum-found-requires : goal.maximum-found-requires
 maximum-found-requires c =
-    let limits : CallLimits c.in-Made.ring.nodes c.in-Made.ring.colours c.args.ends.now (length c.args.table.now) =
-    made_fits c.args.n c.args.w c.args.ends.now (length c.args.table.now) c.in-Made.ring
-    (sym c.call_answer-answer.ensures ∙ c.in-Made.is) in
-    let l = limits in valid_on_256 _ _ l.ring.nodes_to l.list.valid
+    let limits = made_fits c.args.n c.args.w c.args.ends.now (length c.args.table.now) _ (sym c.call_answer-answer.ensures ∙ c.in-Made.is) in
+    valid_on_256 _ _ limits.ring.nodes_to limits.list.valid
 
 pub choose-requires : goal.choose-requires
 choose-requires c =
-    let limits : CallLimits c.in-Made.ring.nodes c.in-Made.ring.colours c.args.ends.now (length c.args.table.now) =
-    made_fits c.args.n c.args.w c.args.ends.now (length c.args.table.now) c.in-Made.ring
-    (sym c.call_answer-answer.ensures ∙ c.in-Made.is) in
+    let limits = made_fits c.args.n c.args.w c.args.ends.now (length c.args.table.now) _ (sym c.call_answer-answer.ensures ∙ c.in-Made.is) in
     choosable_if c.in-Made.ring.nodes c.in-Made.ring.colours c.args.ends.now c.args.table.now _
     c.colour-chain.result c.maximum-found.result
     limits c.colour-chain.ensures c.maximum-found.ensures
@@ -39,9 +32,7 @@ returns-in-Refused c =
 
 pub returns-in-Made : goal.returns-in-Made
 returns-in-Made c =
-    let limits : CallLimits c.in-Made.ring.nodes c.in-Made.ring.colours c.args.ends.now (length c.args.table.now) =
-    made_fits c.args.n c.args.w c.args.ends.now (length c.args.table.now) c.in-Made.ring
-    (sym c.call_answer-answer.ensures ∙ c.in-Made.is) in
+    let limits = made_fits c.args.n c.args.w c.args.ends.now (length c.args.table.now) _ (sym c.call_answer-answer.ensures ∙ c.in-Made.is) in
     let ring = c.in-Made.ring in
     let R = requests_of c.args.ends.now in
     let P = pairs_of (length R) c.maximum-found.result.mates in

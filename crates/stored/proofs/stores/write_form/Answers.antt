@@ -1,11 +1,13 @@
-use Prim.Native.Nat.{◌≤◌, ◌-◌, ◌+◌, ◌*◌}
+use Prim.Native.Nat.{ℕ, ◌≤◌, ◌-◌, ◌+◌, ◌*◌}
 use mathlib.Core.Path.{◌≡◌, refl, sym, ◌∙◌, ap}
-use mathlib.Core.List.{◌++◌}
+use mathlib.Core.List.{List, ◌++◌}
 use native.Mathlib.Omega.{arith}
 use lib.ListN.{length, drop, length-append, length-drop}
 use lib.Seq.{length-take-le}
 use borrow.Rule.Slice.PartMut.{put_mid, same_len_mid}
+use Rattle.book.specs.declared.books.Book.{Book}
 use Rattle.book.specs.Books.{records_of}
+use Rattle.stored.specs.declared.forms.Form.{Form}
 use Rattle.stored.specs.Forms.{blocks, stored_length}
 use Rattle.stored.specs.Storing.{length_of}
 use Rattle.stored.proofs.FormLaws.{later_begun, later_few, longest_small}
@@ -13,12 +15,21 @@ use Rattle.stored.proofs.StoreLaws.{part_length, stored_block_length, blocks_len
 use Rattle.stored.proofs.StoreLaws.{store_answer_lem, store_done}
 use Rattle.stored.proofs.stores.write_form.Goals as goal
 
+-- no form is longer than the longest
+few_bytes : (form : Form) (count length : ℕ) → length ≡ stored_length form count → count ≤ 512 → length ≤ 7168
+few_bytes form count length whole few = omega (arith, whole, later_few form count few, longest_small form)
+
+-- a first block in the place of 512 bytes keeps the length
+same_length : (form : Form) (b : Book) (front buffer : List ℕ) → front ≡ blocks form b 1 → 512 ≤ length buffer
+    → length (front ++ drop 512 buffer) ≡ length buffer
+same_length form b front buffer e room =
+    omega (arith, length-append front (drop 512 buffer), length-drop 512 buffer, ap length e, blocks_length form b 1)
+
 pub returns-then-buffer-length : goal.returns-then-buffer-length
 returns-then-buffer-length c =
-    let whole_is : c.stored_length-length.result ≡ length_of c.args.form c.args.book =
-    c.stored_length-length.ensures ∙ ap (stored_length c.args.form) c.record_count-count.ensures.0 in
+    let whole = c.stored_length-length.ensures ∙ ap (stored_length c.args.form) c.record_count-count.ensures.0 in
     let s = c.args in
-    store_short s.form s.book s.buffer.now (omega (arith, whole_is))
+    store_short s.form s.book s.buffer.now (omega (arith, whole))
 
 pub write_header-requires : goal.write_header-requires
 write_header-requires c =
@@ -27,55 +38,31 @@ write_header-requires c =
 
 pub loop-block-init : goal.loop-block-init
 loop-block-init c =
-    let front_is : c.write_header.new.block ≡ blocks c.args.form c.args.book 1 =
-    let s = c.args in
-    first_block s.form s.book c.narrow.result c.form_mark.result
-    c.write_header.new.block
-    (c.narrow.ensures ∙ c.record_count-count.ensures.0) c.form_mark.ensures c.write_header.ensures in
-    let start_length : length (c.write_header.new.block ++ drop 512 c.args.buffer.now) ≡ length c.args.buffer.now =
-    let s = c.args in
-    let h : 512 ≤ length s.buffer.now = omega (
-      arith,
-      c.stored_length-length.ensures,
-      c.if-buffer-length.false,
-    ) in
-    omega (
-      arith,
-      length-append c.write_header.new.block (drop 512 s.buffer.now),
-      length-drop 512 s.buffer.now,
-      ap length front_is,
-      blocks_length s.form s.book 1,
-    ) in
+    let front = first_block c.args.form c.args.book _ _ _ (c.narrow.ensures ∙ c.record_count-count.ensures.0) c.form_mark.ensures
+    c.write_header.ensures in
+    let kept = same_length c.args.form c.args.book _ c.args.buffer.now front
+    (omega (arith, c.stored_length-length.ensures, c.if-buffer-length.false)) in
     let s = c.args in (
       omega arith,
       omega (arith, c.stored_length-length.ensures),
-      omega (arith, start_length, c.if-buffer-length.false),
+      omega (arith, kept, c.if-buffer-length.false),
       refl,
-      started s.form s.book c.write_header.new.block (drop 512 s.buffer.now) front_is,
+      started s.form s.book c.write_header.new.block (drop 512 s.buffer.now) front,
     )
 
 pub write_records-requires : goal.write_records-requires
 write_records-requires c =
-    let whole_is : c.stored_length-length.result ≡ length_of c.args.form c.args.book =
-    c.stored_length-length.ensures ∙ ap (stored_length c.args.form) c.record_count-count.ensures.0 in
-    let whole_few : c.stored_length-length.result ≤ 7168 =
-    let form = c.args.form in
-    omega (
-      arith,
-      c.stored_length-length.ensures,
-      later_few form c.record_count-count.result c.record_count-count.ensures.1,
-      longest_small form,
-    ) in
+    let whole = c.stored_length-length.ensures ∙ ap (stored_length c.args.form) c.record_count-count.ensures.0 in
+    let few = few_bytes c.args.form _ _ c.stored_length-length.ensures c.record_count-count.ensures.1 in
     let l = c.loop-block in
     let s = c.args in
-    let whole = whole_is in
     record {
       size = part_length l.buffer (l.block * 512) (omega (
         arith,
         c.stored_length-length.ensures,
       ));
       from = omega arith;
-      to = omega (arith, whole_few);
+      to = omega (arith, few);
       filled = later_begun s.form (length (records_of s.book)) (l.block - 1) (omega arith);
     }
 
@@ -100,56 +87,28 @@ loop-block-preserved c =
 
 pub narrow-requires-2 : goal.narrow-requires-2
 narrow-requires-2 c =
-    let whole_few : c.stored_length-length.result ≤ 7168 =
-    let form = c.args.form in
-    omega (
-      arith,
-      c.stored_length-length.ensures,
-      later_few form c.record_count-count.result c.record_count-count.ensures.1,
-      longest_small form,
-    ) in
-    omega (arith, whole_few)
+    let few = few_bytes c.args.form _ _ c.stored_length-length.ensures c.record_count-count.ensures.1 in
+    omega (arith, few)
 
 pub shape_of-buffer : goal.shape_of-buffer
 shape_of-buffer c =
-    let front_is : c.write_header.new.block ≡ blocks c.args.form c.args.book 1 =
-    let s = c.args in
-    first_block s.form s.book c.narrow.result c.form_mark.result
-    c.write_header.new.block
-    (c.narrow.ensures ∙ c.record_count-count.ensures.0) c.form_mark.ensures c.write_header.ensures in
-    let start_length : length (c.write_header.new.block ++ drop 512 c.args.buffer.now) ≡ length c.args.buffer.now =
-    let s = c.args in
-    let h : 512 ≤ length s.buffer.now = omega (
-      arith,
-      c.stored_length-length.ensures,
-      c.if-buffer-length.false,
-    ) in
-    omega (
-      arith,
-      length-append c.write_header.new.block (drop 512 s.buffer.now),
-      length-drop 512 s.buffer.now,
-      ap length front_is,
-      blocks_length s.form s.book 1,
-    ) in
-    let e = start_length in
-    c.loop-block.invariant.3 ∙ e
+    let front = first_block c.args.form c.args.book _ _ _ (c.narrow.ensures ∙ c.record_count-count.ensures.0) c.form_mark.ensures
+    c.write_header.ensures in
+    let kept = same_length c.args.form c.args.book _ c.args.buffer.now front
+    (omega (arith, c.stored_length-length.ensures, c.if-buffer-length.false)) in
+    c.loop-block.invariant.3 ∙ kept
 
 pub returns : goal.returns
 returns c =
-    let whole_is : c.stored_length-length.result ≡ length_of c.args.form c.args.book =
-    c.stored_length-length.ensures ∙ ap (stored_length c.args.form) c.record_count-count.ensures.0 in
-    let front_is : c.write_header.new.block ≡ blocks c.args.form c.args.book 1 =
-    let s = c.args in
-    first_block s.form s.book c.narrow.result c.form_mark.result
-    c.write_header.new.block
-    (c.narrow.ensures ∙ c.record_count-count.ensures.0) c.form_mark.ensures c.write_header.ensures in
+    let whole = c.stored_length-length.ensures ∙ ap (stored_length c.args.form) c.record_count-count.ensures.0 in
+    let front = first_block c.args.form c.args.book _ _ _ (c.narrow.ensures ∙ c.record_count-count.ensures.0) c.form_mark.ensures
+    c.write_header.ensures in
     let s = c.args in
     let l = c.loop-block in
-    let whole = whole_is in
     let room : length_of s.form s.book ≤ length s.buffer.now = omega
     (arith, c.if-buffer-length.false) in (
       store_answer_lem s.form s.book s.buffer.now c.narrow-2.result (c.narrow-2.ensures ∙ whole) room,
       store_done s.form s.book l.buffer s.buffer.now c.write_header.new.block
           l.block
-          (omega arith) room (ap length front_is ∙ blocks_length s.form s.book 1) l.invariant.4,
+          (omega arith) room (ap length front ∙ blocks_length s.form s.book 1) l.invariant.4,
     )
