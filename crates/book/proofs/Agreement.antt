@@ -4,13 +4,10 @@ use mathlib.Core.Path.{◌≡◌, refl, sym, ◌∙◌, ap}
 use mathlib.Core.Bool.{Bool, true, false, ◌||◌}
 use mathlib.Core.List.{List, [], ◌∷◌}
 use mathlib.Core.Logic.{inl, inr, ◌↔◌, ⊎_elim}
+use Rattle.std.specs.Prelude.{Ok, Err}
 use Rattle.ring.specs.declared.refusals.Refusal.TheVariants.{SerialNeverGiven, SerialRemoved, SerialLive, SerialConfirmed}
 use Rattle.ring.proofs.Cases.{eqb_refl, impossible}
 use Rattle.book.specs.declared.circuits.Circuit.{Circuit}
-use Rattle.book.specs.declared.grants.GrantAnswer.TheVariants as grant
-use Rattle.book.specs.declared.removals.RemoveAnswer.TheVariants as remove
-use Rattle.book.specs.declared.confirmations.ConfirmAnswer.TheVariants as confirm
-use Rattle.book.specs.declared.orders.ShowAnswer.TheVariants as show
 use Rattle.book.specs.Grants.{circuit_of}
 use Rattle.book.specs.History.{Event, GrantAnswered, RemoveAnswered, ConfirmAnswered, Gives, gave, removes, confirms, Live, Pending}
 use Rattle.book.specs.History.{was_given, was_removed, was_confirmed}
@@ -74,7 +71,7 @@ module _ (h : List Event) (s : ℕ) where
   }
 
   pub agrees_granted : (x y way colour crew : ℕ) → Agrees h s Unknown
-      → Agrees (GrantAnswered x y way colour crew (grant.Granted s) ∷ h) s (IsLive (circuit_of s x y way colour crew))
+      → Agrees (GrantAnswered x y way colour crew (Ok s) ∷ h) s (IsLive (circuit_of s x y way colour crew))
   agrees_granted x y way colour crew k = record {
     lives = λ c. (
       λ q. inl (refl, cc q),
@@ -89,7 +86,7 @@ module _ (h : List Event) (s : ℕ) where
     confirmed = k.confirmed;
   }
 
-  pub agrees_removed : (c : Circuit) → Agrees h s (IsLive c) → Agrees (RemoveAnswered s remove.Removed ∷ h) s (IsPending c)
+  pub agrees_removed : (c : Circuit) → Agrees h s (IsLive c) → Agrees (RemoveAnswered s (Ok tt) ∷ h) s (IsPending c)
   agrees_removed c₀ k = record {
     lives = λ c. (λ q. impossible (cc q), λ z. ⊎_elim (λ p. absurd p) (λ p. impossible (sym (eqb_refl s) ∙ p.0)) z);
     pends = λ c. (
@@ -101,7 +98,7 @@ module _ (h : List Event) (s : ℕ) where
     confirmed = k.confirmed;
   }
 
-  pub agrees_confirmed : (c : Circuit) → Agrees h s (IsPending c) → Agrees (ConfirmAnswered s confirm.Confirmed ∷ h) s Gone
+  pub agrees_confirmed : (c : Circuit) → Agrees h s (IsPending c) → Agrees (ConfirmAnswered s (Ok tt) ∷ h) s Gone
   agrees_confirmed c₀ k = record {
     lives = λ c. (
       λ q. impossible (cc q),
@@ -118,49 +115,49 @@ module _ (h : List Event) (s : ℕ) where
 
 -- ---- which answer a standing has
 
-pub show_live : (t : Standing) (c : Circuit) → ((show_by t ≡ show.Shown c) ↔ (t ≡ IsLive c))
+pub show_live : (t : Standing) (c : Circuit) → ((show_by t ≡ Ok c) ↔ (t ≡ IsLive c))
 show_live Unknown c = (λ e. impossible (cc), λ e. impossible (cc))
 show_live (IsLive d) c = (λ e. cc, λ e. cc)
 show_live (IsPending d) c = (λ e. impossible (cc), λ e. impossible (cc))
 show_live Gone c = (λ e. impossible (cc), λ e. impossible (cc))
 
-pub show_unknown : (t : Standing) → ((show_by t ≡ show.Refused SerialNeverGiven) ↔ (is_given t ≡ false))
+pub show_unknown : (t : Standing) → ((show_by t ≡ Err SerialNeverGiven) ↔ (is_given t ≡ false))
 show_unknown Unknown = (λ e. refl, λ e. refl)
 show_unknown (IsLive c) = (λ e. impossible (cc), λ e. impossible e)
 show_unknown (IsPending c) = (λ e. impossible (cc), λ e. impossible e)
 show_unknown Gone = (λ e. impossible (cc), λ e. impossible e)
 
-pub show_removed : (t : Standing) → ((show_by t ≡ show.Refused SerialRemoved) ↔ ((is_given t ≡ true) × (is_removed t ≡ true)))
+pub show_removed : (t : Standing) → ((show_by t ≡ Err SerialRemoved) ↔ ((is_given t ≡ true) × (is_removed t ≡ true)))
 show_removed Unknown = (λ e. impossible (cc), λ p. impossible (sym p.0))
 show_removed (IsLive c) = (λ e. impossible (cc), λ p. impossible (sym p.1))
 show_removed (IsPending c) = (λ e. (refl, refl), λ p. refl)
 show_removed Gone = (λ e. (refl, refl), λ p. refl)
 
-pub remove_unknown : (t : Standing) → ((remove_by t ≡ remove.Refused SerialNeverGiven) ↔ (is_given t ≡ false))
+pub remove_unknown : (t : Standing) → ((remove_by t ≡ Err SerialNeverGiven) ↔ (is_given t ≡ false))
 remove_unknown Unknown = (λ e. refl, λ e. refl)
 remove_unknown (IsLive c) = (λ e. impossible (cc), λ e. impossible e)
 remove_unknown (IsPending c) = (λ e. impossible (cc), λ e. impossible e)
 remove_unknown Gone = (λ e. impossible (cc), λ e. impossible e)
 
-pub remove_removed : (t : Standing) → ((remove_by t ≡ remove.Refused SerialRemoved) ↔ ((is_given t ≡ true) × (is_removed t ≡ true)))
+pub remove_removed : (t : Standing) → ((remove_by t ≡ Err SerialRemoved) ↔ ((is_given t ≡ true) × (is_removed t ≡ true)))
 remove_removed Unknown = (λ e. impossible (cc), λ p. impossible (sym p.0))
 remove_removed (IsLive c) = (λ e. impossible (cc), λ p. impossible (sym p.1))
 remove_removed (IsPending c) = (λ e. (refl, refl), λ p. refl)
 remove_removed Gone = (λ e. (refl, refl), λ p. refl)
 
-pub confirm_unknown : (t : Standing) → ((confirm_by t ≡ confirm.Refused SerialNeverGiven) ↔ (is_given t ≡ false))
+pub confirm_unknown : (t : Standing) → ((confirm_by t ≡ Err SerialNeverGiven) ↔ (is_given t ≡ false))
 confirm_unknown Unknown = (λ e. refl, λ e. refl)
 confirm_unknown (IsLive c) = (λ e. impossible (cc), λ e. impossible e)
 confirm_unknown (IsPending c) = (λ e. impossible (cc), λ e. impossible e)
 confirm_unknown Gone = (λ e. impossible (cc), λ e. impossible e)
 
-pub confirm_live : (t : Standing) → ((confirm_by t ≡ confirm.Refused SerialLive) ↔ ((is_given t ≡ true) × (is_removed t ≡ false)))
+pub confirm_live : (t : Standing) → ((confirm_by t ≡ Err SerialLive) ↔ ((is_given t ≡ true) × (is_removed t ≡ false)))
 confirm_live Unknown = (λ e. impossible (cc), λ p. impossible (sym p.0))
 confirm_live (IsLive c) = (λ e. (refl, refl), λ p. refl)
 confirm_live (IsPending c) = (λ e. impossible (cc), λ p. impossible p.1)
 confirm_live Gone = (λ e. impossible (cc), λ p. impossible p.1)
 
-pub confirm_confirmed : (t : Standing) → ((confirm_by t ≡ confirm.Refused SerialConfirmed) ↔ (is_confirmed t ≡ true))
+pub confirm_confirmed : (t : Standing) → ((confirm_by t ≡ Err SerialConfirmed) ↔ (is_confirmed t ≡ true))
 confirm_confirmed Unknown = (λ e. impossible (cc), λ e. impossible (sym e))
 confirm_confirmed (IsLive c) = (λ e. impossible (cc), λ e. impossible (sym e))
 confirm_confirmed (IsPending c) = (λ e. impossible (cc), λ e. impossible (sym e))

@@ -8,6 +8,8 @@ use native.Mathlib.Omega.{arith}
 use lib.Dec.{eqb}
 use lib.ListN.{length, set}
 use borrow.Author.Tests.{eq-eqb}
+use Rattle.std.specs.Prelude.{Result, Ok, ⊤}
+use Rattle.ring.specs.declared.refusals.Refusal.{Refusal}
 use Rattle.ring.specs.Matchings.{NoTwice}
 use Rattle.ring.specs.Ways.{uses}
 use Rattle.ring.proofs.Cases.{impossible}
@@ -15,8 +17,8 @@ use Rattle.book.specs.declared.circuits.RecordState.{RecordState}
 use Rattle.book.specs.declared.circuits.RecordState.TheVariants as state
 use Rattle.book.specs.declared.circuits.Circuit.{Circuit}
 use Rattle.book.specs.declared.books.Book.{Book}
-use Rattle.book.specs.declared.confirmations.ConfirmAnswer.TheVariants as confirm
-use Rattle.book.specs.declared.holders.HolderAnswer.TheVariants as holder
+use Rattle.book.specs.declared.holders.Holder.{Holder}
+use Rattle.book.specs.declared.holders.Holder.TheVariants as holder
 use Rattle.book.specs.Circuits.{as_pending, desk, circuit, ends_of, holds}
 use Rattle.book.specs.Books.{records_of, book_of, Valid}
 use Rattle.book.specs.Removals.{with_record, removed}
@@ -74,24 +76,24 @@ module _ (n w : ℕ) (h : List Event) (b : Book) (k : Kept n w h b) (link colour
         holding = ap (λ (c : Circuit). holds c link colour) at.there ∙ g.holding;
       }
 
-  pub held_by_lem : (s : ℕ) → ((held_by b link colour ≡ holder.HeldBy s) ↔ Holding h link colour s)
+  pub held_by_lem : (s : ℕ) → ((held_by b link colour ≡ Ok (holder.HeldBy s)) ↔ Holding h link colour s)
   held_by_lem s = (
     λ e. holder_stands s (held_at b k.valid link colour hl' hc' s e),
     λ g. at_held b k.valid link colour hl' hc' s (stands_holder s g),
   )
 
-  pub held_free : ((held_by b link colour ≡ holder.Free) ↔ ((s : ℕ) → Holding h link colour s → ⊥))
+  pub held_free : ((held_by b link colour ≡ Ok holder.Free) ↔ ((s : ℕ) → Holding h link colour s → ⊥))
   held_free = (to, from)
     where
-      to : held_by b link colour ≡ holder.Free → (s : ℕ) → Holding h link colour s → ⊥
-      to e s g = let q : held_by b link colour ≡ holder.HeldBy s = (held_by_lem s).1 g in impossible (cc)
+      to : held_by b link colour ≡ Ok holder.Free → (s : ℕ) → Holding h link colour s → ⊥
+      to e s g = let q : held_by b link colour ≡ Ok (holder.HeldBy s) = (held_by_lem s).1 g in impossible (cc)
 
-      from : ((s : ℕ) → Holding h link colour s → ⊥) → held_by b link colour ≡ holder.Free
+      from : ((s : ℕ) → Holding h link colour s → ⊥) → held_by b link colour ≡ Ok holder.Free
       from f =
           let range = held_in_range b link colour hl' hc' in
           elim (free_or_held (records_of b) link colour) [
-            | free e ↦ range ∙ e
-            | held s e ↦ absurd (f s ((held_by_lem s).0 (range ∙ e)))
+            | free e ↦ range ∙ ap Ok e
+            | held s e ↦ absurd (f s ((held_by_lem s).0 (range ∙ ap Ok e)))
           ]
 
 -- ---- a removal frees none
@@ -101,7 +103,7 @@ pending_keeps : (b : Book) → Valid b → (i : ℕ) → i < length (records_of 
 unfolding held_by holder_verdict
 pending_keeps b v i l link colour =
     let ds : List Circuit = set (records_of b) i (as_pending (circuit (records_of b) i)) in
-    ap (holder_unless (holder_verdict b link colour))
+    ap (λ (a : Holder). holder_unless (holder_verdict b link colour) (Ok a))
     (ap (λ (d : Book). holder_in desk (records_of d) link colour) (record_form b v i (as_pending (circuit (records_of b) i)) l)
     ∙ ap (λ (cs : List Circuit). holder_in desk cs link colour) (records_form b.n b.w b.grants ds)
     ∙ alike_holder (records_of b) ds (pending_alike (records_of b) i) link colour)
@@ -114,17 +116,17 @@ keeps b v s link colour =
 -- ---- a confirmation frees every link of the circuit's way
 
 frees : (n w : ℕ) (h : List Event) (b : Book) → Kept n w h b → (s : ℕ) (c : Circuit) → Pending h s c → (link : ℕ) → link < n
-    → uses c.way (ends_of c) link ≡ true → held_by (confirmed b s).book link c.colour ≡ holder.Free
+    → uses c.way (ends_of c) link ≡ true → held_by (confirmed b s).book link c.colour ≡ Ok holder.Free
 unfolding holds
 frees n w h b k s c p link l u =
-    confirmation_cases b s (λ d. d.answer ≡ confirm.Confirmed → held_by d.book link c.colour ≡ holder.Free) gone
+    confirmation_cases b s (λ d. d.answer ≡ Ok tt → held_by d.book link c.colour ≡ Ok holder.Free) gone
     (λ r e. impossible (cc)) (confirmed_by b s ∙ ap confirm_by stands)
   where
     stands : standing_of b s ≡ IsPending c
     stands = ((k.orders s).pends c).1 p
 
     gone : (i : ℕ) → i < length (records_of b) → (circuit (records_of b) i).serial ≡ s → (circuit (records_of b) i).state ≡ state.Pending
-        → confirm.Confirmed ≡ confirm.Confirmed → held_by (without_circuit i b) link c.colour ≡ holder.Free
+        → ◌≡◌ {A = Result ⊤ Refusal} (Ok tt) (Ok tt) → held_by (without_circuit i b) link c.colour ≡ Ok holder.Free
     gone i place serial pending e =
         let d : Circuit = circuit (records_of b) i in
         let same : IsPending (as_granted d) ≡ IsPending c =

@@ -2,42 +2,28 @@
 use Prim.Native.Nat.{ℕ, ◌+◌, ◌<◌}
 use mathlib.Core.Path.{◌≡◌, refl, sym, ◌∙◌, ap}
 use mathlib.Core.Bool.{Bool}
-use borrow.Author.Tests.{lt-ltb, lt-leb}
+use Rattle.std.specs.Prelude.{Ok, Err}
 use Rattle.ring.specs.declared.refusals.Refusal.{Refusal}
 use Rattle.ring.specs.declared.refusals.Refusal.TheVariants.{ColourHeld}
-use Rattle.ring.specs.declared.refusals.Verdict.{Verdict}
-use Rattle.ring.specs.declared.refusals.Verdict.TheVariants as verdict
 use Rattle.ring.specs.Requests.{request_of}
-use Rattle.ring.specs.Refusals.{refuse_if, or_else}
+use Rattle.ring.specs.Refusals.{Verdict, refuse_if, or_else}
 use Rattle.ring.proofs.AdmissionLaws.{both_allowed}
-use Rattle.book.specs.declared.circuits.Circuit.{Circuit}
 use Rattle.book.specs.declared.books.Book.{Book}
-use Rattle.book.specs.declared.grants.Granted.{Granted}
-use Rattle.book.specs.declared.grants.GrantAnswer.TheVariants as answer
+use Rattle.book.specs.Grants.{Granted}
 use Rattle.book.specs.Books.{records_of, Valid}
 use Rattle.book.specs.Grants.{way_of, circuit_of, argument_verdict, room_verdict, grant_verdict, with_circuit, grant_unless, granted}
 use Rattle.book.specs.Grants.{GrantPromise}
 use Rattle.book.specs.Internal.Conflicts.{conflict_in, verdict_by_ends}
-use Rattle.book.specs.Internal.Entering.{next_serial, entered}
 use Rattle.book.proofs.ConflictLaws.{conflict_means}
 use Rattle.book.proofs.Verdicts.{GoodArguments, good_arguments, good_room}
 
--- where there is a serial and a place, the next serial is given and the circuit entered
-next_serial_lem : (grants : ℕ) → grants < 65535 → next_serial grants ≡ grants + 1
-unfolding next_serial
-next_serial_lem grants h = simp (lt-ltb grants 65535 h)
-
-entered_with : (b : Book) (c : Circuit) → b.records < 512 → b.grants < 65535 → entered b c ≡ with_circuit b c
-unfolding entered
-entered_with b c h k = simp (lt-leb 512 b.records h, next_serial_lem b.grants k)
-
 -- two verdicts are one if what follows the first is one wherever the first allows it
-or_else_same : (v p q : Verdict) → (v ≡ verdict.Allowed → p ≡ q) → or_else v p ≡ or_else v q
-or_else_same verdict.Allowed p q h = h refl
-or_else_same (verdict.Refused r) p q h = refl
+or_else_same : (v p q : Verdict) → (v ≡ Ok tt → p ≡ q) → or_else v p ≡ or_else v q
+or_else_same (Ok allowed) p q h = h refl
+or_else_same (Err r) p q h = refl
 
 -- a verdict that allows says that there is a place and a serial
-room_there : (b : Book) (x y way colour crew : ℕ) → verdict_by_ends b x y way colour crew ≡ verdict.Allowed
+pub room_there : (b : Book) (x y way colour crew : ℕ) → verdict_by_ends b x y way colour crew ≡ Ok tt
     → (b.records < 512) × (b.grants < 65535)
 unfolding verdict_by_ends
 room_there b x y way colour crew e =
@@ -71,18 +57,11 @@ module _ (b : Book) (x y way colour crew : ℕ) where
     valid = λ v. m ∙ ap (λ (t : Verdict). grant_unless t b (circuit_of (b.grants + 1) x y way colour crew)) (verdict_means v);
   }
 
-  pub grant_refused : (v : Verdict) (r : Refusal) → v ≡ verdict_by_ends b x y way colour crew → v ≡ verdict.Refused r
-      → GrantPromise b x y way colour crew (record { answer = answer.Refused r; book = b })
-  grant_refused v r e f = promise _ (ap (λ (t : Verdict). grant_unless t b (circuit_of (b.grants + 1) x y way colour crew)) (sym f ∙ e))
+  pub grant_refused : (r : Refusal) → verdict_by_ends b x y way colour crew ≡ Err r
+      → GrantPromise b x y way colour crew (record { answer = Err r; book = b })
+  grant_refused r e = promise _ (ap (λ (t : Verdict). grant_unless t b (circuit_of (b.grants + 1) x y way colour crew)) (sym e))
 
-  pub grant_allowed : (v : Verdict) (serial : ℕ) (c : Circuit) (d : Book) → v ≡ verdict_by_ends b x y way colour crew → v ≡ verdict.Allowed
-      → serial ≡ next_serial b.grants → c ≡ circuit_of serial x y way colour crew → d ≡ entered b c
-      → GrantPromise b x y way colour crew (record { answer = answer.Granted serial; book = d })
-  grant_allowed v serial c d e f g h k =
-      let allowed = sym e ∙ f in
-      let room = room_there b x y way colour crew allowed in
-      let given : serial ≡ b.grants + 1 = g ∙ next_serial_lem b.grants room.1 in
-      let new : c ≡ circuit_of (b.grants + 1) x y way colour crew = h ∙ ap (λ (s : ℕ). circuit_of s x y way colour crew) given in
-      let with-new : d ≡ with_circuit b (circuit_of (b.grants + 1) x y way colour crew) = k ∙ entered_with b c room.0 room.1
-      ∙ ap (with_circuit b) new in
-      promise _ (rw (given, with-new, allowed) refl)
+  pub grant_allowed : verdict_by_ends b x y way colour crew ≡ Ok tt
+      → GrantPromise b x y way colour crew
+      (record { answer = Ok (b.grants + 1); book = with_circuit b (circuit_of (b.grants + 1) x y way colour crew) })
+  grant_allowed e = promise _ (ap (λ (t : Verdict). grant_unless t b (circuit_of (b.grants + 1) x y way colour crew)) (sym e))

@@ -8,16 +8,13 @@ use native.Mathlib.Numerals.{add-one}
 use lib.Dec.{eqb}
 use lib.ListN.{length, take, drop, set}
 use borrow.Author.Tests.{eqb-false}
-use Rattle.ring.specs.declared.refusals.Verdict.TheVariants as verdict
+use Rattle.std.specs.Prelude.{Ok, Err}
 use Rattle.ring.specs.Admission.{ring_verdict}
 use Rattle.ring.proofs.Cases.{test, same, different}
 use Rattle.book.specs.declared.circuits.RecordState.{RecordState}
 use Rattle.book.specs.declared.circuits.RecordState.TheVariants.{Live, Pending}
 use Rattle.book.specs.declared.circuits.Circuit.{Circuit}
 use Rattle.book.specs.declared.books.Book.{Book}
-use Rattle.book.specs.declared.grants.GrantAnswer.TheVariants as grant
-use Rattle.book.specs.declared.removals.RemoveAnswer.TheVariants as remove
-use Rattle.book.specs.declared.confirmations.ConfirmAnswer.TheVariants as confirm
 use Rattle.book.specs.Circuits.{live_state, as_pending, circuit}
 use Rattle.book.specs.Books.{records_of, live_in, live_of, book_of, Valid}
 use Rattle.book.specs.Grants.{circuit_of, with_circuit}
@@ -51,7 +48,7 @@ pub record Kept (n w : ℕ) (h : List Event) (b : Book) : Type 0 where
   pub records : b.records + confirmations h ≡ length (given h)
   pub serials : given h ≡ down_from (length (given h))
 
-kept_open : (n w : ℕ) → ring_verdict n w ≡ verdict.Allowed → Kept n w [] (book_of n w 0 [])
+kept_open : (n w : ℕ) → ring_verdict n w ≡ Ok tt → Kept n w [] (book_of n w 0 [])
 kept_open n w e = record {
   valid = opened_valid n w e;
   nodes = refl;
@@ -89,7 +86,7 @@ module _ (n w : ℕ) (h : List Event) (b : Book) (k : Kept n w h b) where
 
   -- an accepted grant
   kept_granted : (x y way colour crew : ℕ) → GoodGrant b x y way colour crew
-      → Kept n w (GrantAnswered x y way colour crew (grant.Granted (b.grants + 1)) ∷ h)
+      → Kept n w (GrantAnswered x y way colour crew (Ok (b.grants + 1)) ∷ h)
       (with_circuit b (circuit_of (b.grants + 1) x y way colour crew))
   kept_granted x y way colour crew g = record {
     valid = valid;
@@ -126,7 +123,7 @@ module _ (n w : ℕ) (h : List Event) (b : Book) (k : Kept n w h b) where
 
   -- an accepted removal
   kept_removed : (i : ℕ) → i < length cs → (circuit cs i).state ≡ Live
-      → Kept n w (RemoveAnswered (circuit cs i).serial remove.Removed ∷ h) (with_record i (as_pending (circuit cs i)) b)
+      → Kept n w (RemoveAnswered (circuit cs i).serial (Ok tt) ∷ h) (with_record i (as_pending (circuit cs i)) b)
   kept_removed i l live = record {
     valid = removal_valid b k.valid i l;
     nodes = k.nodes;
@@ -163,7 +160,7 @@ module _ (n w : ℕ) (h : List Event) (b : Book) (k : Kept n w h b) where
 
   -- an accepted confirmation
   kept_confirmed : (i : ℕ) → i < length cs → (circuit cs i).state ≡ Pending
-      → Kept n w (ConfirmAnswered (circuit cs i).serial confirm.Confirmed ∷ h) (without_circuit i b)
+      → Kept n w (ConfirmAnswered (circuit cs i).serial (Ok tt) ∷ h) (without_circuit i b)
   kept_confirmed i l pending = record {
     valid = confirmation_valid b k.valid i l;
     nodes = k.nodes;
@@ -219,27 +216,27 @@ kept_after_lem : (n w : ℕ) (h : List Event) (b : Book) → Kept n w h b → (c
 kept_after_lem n w h b k (Grant x y way colour crew) =
     grant_cases b x y way colour crew (λ d. Kept n w (GrantAnswered x y way colour crew d.answer ∷ h) d.book)
     (kept_granted n w h b k x y way colour crew)
-    (λ r. kept_same n w h b k (GrantAnswered x y way colour crew (grant.Refused r)) refl refl refl
+    (λ r. kept_same n w h b k (GrantAnswered x y way colour crew (Err r)) refl refl refl
     (λ t. nothing _ t refl refl refl (λ c p. p)))
 kept_after_lem n w h b k (Remove s) =
     removal_cases b s (λ d. Kept n w (RemoveAnswered s d.answer ∷ h) d.book)
     (λ i l serial live.
-    subst (λ (r : ℕ). Kept n w (RemoveAnswered r remove.Removed ∷ h) (with_record i (as_pending (circuit (records_of b) i)) b)) serial
+    subst (λ (r : ℕ). Kept n w (RemoveAnswered r (Ok tt) ∷ h) (with_record i (as_pending (circuit (records_of b) i)) b)) serial
     (kept_removed n w h b k i l live))
-    (λ r. kept_same n w h b k (RemoveAnswered s (remove.Refused r)) refl refl refl (λ t. nothing _ t refl refl refl (λ c p. p)))
+    (λ r. kept_same n w h b k (RemoveAnswered s (Err r)) refl refl refl (λ t. nothing _ t refl refl refl (λ c p. p)))
 kept_after_lem n w h b k (Confirm s) =
     confirmation_cases b s (λ d. Kept n w (ConfirmAnswered s d.answer ∷ h) d.book)
     (λ i l serial pending.
-    subst (λ (r : ℕ). Kept n w (ConfirmAnswered r confirm.Confirmed ∷ h) (without_circuit i b)) serial
+    subst (λ (r : ℕ). Kept n w (ConfirmAnswered r (Ok tt) ∷ h) (without_circuit i b)) serial
     (kept_confirmed n w h b k i l pending))
-    (λ r. kept_same n w h b k (ConfirmAnswered s (confirm.Refused r)) refl refl refl (λ t. nothing _ t refl refl refl (λ c p. p)))
+    (λ r. kept_same n w h b k (ConfirmAnswered s (Err r)) refl refl refl (λ t. nothing _ t refl refl refl (λ c p. p)))
 kept_after_lem n w h b k (Show s crew) =
     kept_same n w h b k (ShowAnswered s crew (shown_to crew b s)) refl refl refl (λ t. nothing _ t refl refl refl (λ c p. p))
 kept_after_lem n w h b k (Holder link colour crew) =
     kept_same n w h b k (HolderAnswered link colour crew (held_for crew b link colour)) refl refl refl
     (λ t. nothing _ t refl refl refl (λ c p. p))
 
-pub kept_run : (n w : ℕ) → ring_verdict n w ≡ verdict.Allowed → (calls : List Call)
+pub kept_run : (n w : ℕ) → ring_verdict n w ≡ Ok tt → (calls : List Call)
     → Kept n w (history (book_of n w 0 []) calls) (run (book_of n w 0 []) calls)
 kept_run n w e [] = kept_open n w e
 kept_run n w e (call ∷ calls) = kept_after_lem n w (history (book_of n w 0 []) calls) (run (book_of n w 0 []) calls) (kept_run n w e calls) call

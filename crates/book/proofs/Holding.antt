@@ -1,68 +1,34 @@
 -- The holder of a colour on a link is the one record, live or pending, that holds it.
-use Prim.Native.Nat.{ℕ, zero, suc, ◌+◌, ◌-◌, ◌≤◌, ◌<◌}
+use Prim.Native.Nat.{ℕ, zero, suc, ◌<◌}
 use mathlib.Core.Path.{◌≡◌, refl, sym, ◌∙◌, ap}
 use mathlib.Core.Bool.{Bool, true, false, cond}
 use mathlib.Core.List.{List, [], ◌∷◌, map}
 use native.Mathlib.Omega.{arith}
-use lib.Dec.{ltb}
-use lib.ListN.{length, take, get_or}
-use borrow.Author.Tests.{lt-leb, lt-ltb, le-ltb}
+use lib.ListN.{length}
+use borrow.Author.Tests.{lt-leb}
+use Rattle.std.specs.Prelude.{Ok}
 use Rattle.ring.proofs.Cases.{is, yes, no, compare, less, not_less, impossible}
-use Rattle.ring.specs.declared.refusals.Verdict.TheVariants.{Allowed}
-use Rattle.ring.specs.Refusals.{or_else}
 use Rattle.book.specs.declared.circuits.Circuit.{Circuit}
 use Rattle.book.specs.declared.books.Book.{Book}
-use Rattle.book.specs.declared.holders.HolderAnswer.{HolderAnswer}
-use Rattle.book.specs.declared.holders.HolderAnswer.TheVariants.{Free, HeldBy}
-use Rattle.book.specs.Circuits.{vacant, desk, circuit, holds}
+use Rattle.book.specs.declared.holders.Holder.{Holder}
+use Rattle.book.specs.declared.holders.Holder.TheVariants.{Free, HeldBy}
+use Rattle.book.specs.Circuits.{desk, circuit, holds}
 use Rattle.book.specs.Books.{records_of, Valid}
-use Rattle.book.specs.Crews.{crew_verdict}
-use Rattle.book.specs.Holders.{told_to, holder_in, holder_verdict, held_by, held_for}
+use Rattle.book.specs.Holders.{holder_in, holder_verdict, held_by}
 use Rattle.book.specs.Confirmations.{without, without_circuit}
-use Rattle.book.specs.Internal.Places.{holder_place}
-use Rattle.book.proofs.Places.{record_at, records_take}
-use Rattle.book.proofs.Searches.{holder_answer}
 use Rattle.book.proofs.Forms.{records_form, without_form}
 use Rattle.book.proofs.CircuitLists.{all_without}
 use Rattle.book.proofs.States.{as_granted, Alike}
 
 -- neither 16 nor 10
-pub in_range : (b : Book) (link colour : ℕ) → link < b.n → colour < b.w → holder_verdict b link colour ≡ Allowed
+pub in_range : (b : Book) (link colour : ℕ) → link < b.n → colour < b.w → holder_verdict b link colour ≡ Ok tt
 unfolding holder_verdict
 in_range b link colour h k = simp (lt-leb b.n link h, lt-leb b.w colour k)
 
 pub held_in_range : (b : Book) (link colour : ℕ) → link < b.n → colour < b.w
-    → held_by b link colour ≡ holder_in desk (records_of b) link colour
+    → held_by b link colour ≡ Ok (holder_in desk (records_of b) link colour)
 unfolding held_by
 held_in_range b link colour h k = simp (in_range b link colour h k)
-
--- the answer to a crew from the place that the search gives
-module _ (crew : ℕ) (b : Book) (link colour place : ℕ) (allowed : or_else (crew_verdict crew) (holder_verdict b link colour) ≡ Allowed)
-    (e : place ≡ holder_place 0 (take (length (records_of b)) b.places) link colour) where
-  held_allowed : held_for crew b link colour ≡ holder_in crew (records_of b) link colour
-  unfolding held_for
-  held_allowed = simp allowed
-
-  answer_at : held_for crew b link colour ≡ cond (ltb place (length (records_of b))) (told_to crew (circuit (records_of b) place)) Free
-  answer_at =
-      let q : holder_place 0 (records_of b) link colour ≡ place =
-      ap (λ (cs : List Circuit). holder_place 0 cs link colour) (sym (records_take b)) ∙ sym e in
-      let z₁ : 0 + length (records_of b) ≡ length (records_of b) = omega arith in
-      let z₂ : place - 0 ≡ place = omega arith in
-      held_allowed ∙ holder_answer crew (records_of b) link colour 0
-      ∙ ap (λ (i : ℕ). cond (ltb i (0 + length (records_of b))) (told_to crew (circuit (records_of b) (i - 0))) Free) q
-      ∙ ap (λ (m : ℕ). cond (ltb place m) (told_to crew (circuit (records_of b) (place - 0))) Free) z₁
-      ∙ ap (λ (i : ℕ). cond (ltb place (length (records_of b))) (told_to crew (circuit (records_of b) i)) Free) z₂
-
-  pub answer_held : place < length (records_of b) → told_to crew (get_or b.places place vacant) ≡ held_for crew b link colour
-  answer_held h =
-      ap (told_to crew) (record_at b place h)
-      ∙ ap (λ (t : Bool). cond t (told_to crew (circuit (records_of b) place)) Free) (sym (lt-ltb place (length (records_of b)) h))
-      ∙ sym answer_at
-
-  pub answer_free : length (records_of b) ≤ place → Free ≡ held_for crew b link colour
-  answer_free h = ap (λ (t : Bool). cond t (told_to crew (circuit (records_of b) place)) Free) (sym (le-ltb place (length (records_of b)) h))
-      ∙ sym answer_at
 
 -- what is so of a holder
 pub record HolderAt (cs : List Circuit) (link colour s : ℕ) : Type 0 where
@@ -95,7 +61,7 @@ first_holder (c ∷ cs) link colour (suc i) h e f =
     ∙ first_holder cs link colour i (omega arith) e (λ j l. f (suc j) (omega arith))
 
 -- the answer is free or a serial
-pub data FreeOrHeld (a : HolderAnswer) : Type 0 where
+pub data FreeOrHeld (a : Holder) : Type 0 where
   free : a ≡ Free → FreeOrHeld a
   held : (s : ℕ) → a ≡ HeldBy s → FreeOrHeld a
 
@@ -142,22 +108,25 @@ module _ (b : Book) (v : Valid b) (link colour : ℕ) (hl : link < b.n) (hc : co
     ]
   ]
 
-  pub held_at : (s : ℕ) → held_by b link colour ≡ HeldBy s → HolderAt (records_of b) link colour s
-  held_at s e = holder_at_lem (records_of b) link colour s (sym (held_in_range b link colour hl hc) ∙ e)
+  pub held_at : (s : ℕ) → held_by b link colour ≡ Ok (HeldBy s) → HolderAt (records_of b) link colour s
+  held_at s e =
+      let found = sym (held_in_range b link colour hl hc) ∙ e in
+      let same : holder_in desk (records_of b) link colour ≡ HeldBy s = cc in
+      holder_at_lem (records_of b) link colour s same
 
-  pub at_held : (s : ℕ) → HolderAt (records_of b) link colour s → held_by b link colour ≡ HeldBy s
+  pub at_held : (s : ℕ) → HolderAt (records_of b) link colour s → held_by b link colour ≡ Ok (HeldBy s)
   at_held s a =
       held_in_range b link colour hl hc
-      ∙ first_holder (records_of b) link colour a.place a.below a.holding
+      ∙ ap Ok (first_holder (records_of b) link colour a.place a.below a.holding
       (λ j l. only_holder a.place j a.below (let h = a.below in omega arith) (λ q. omega arith) a.holding)
-      ∙ ap HeldBy a.serial
+      ∙ ap HeldBy a.serial)
 
   -- once it is gone, nobody does
   pub gone_free : (i : ℕ) → i < length (records_of b) → holds (circuit (records_of b) i) link colour ≡ true
-      → held_by (without_circuit i b) link colour ≡ Free
+      → held_by (without_circuit i b) link colour ≡ Ok Free
   gone_free i h e =
       held_in_range (without_circuit i b) link colour hl hc
-      ∙ ap (λ (d : Book). holder_in desk (records_of d) link colour) (without_form b v i h)
+      ∙ ap Ok (ap (λ (d : Book). holder_in desk (records_of d) link colour) (without_form b v i h)
       ∙ ap (λ (l : List Circuit). holder_in desk l link colour) (records_form b.n b.w b.grants (without i (records_of b)))
       ∙ none_holds (without i (records_of b)) link colour
-      (all_without (records_of b) i h (λ x. holds x link colour ≡ false) (λ j l d. only_holder i j h l d e))
+      (all_without (records_of b) i h (λ x. holds x link colour ≡ false) (λ j l d. only_holder i j h l d e)))

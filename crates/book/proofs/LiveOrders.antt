@@ -6,14 +6,12 @@ use mathlib.Core.List.{List, [], ◌∷◌}
 use native.Mathlib.Omega.{arith}
 use borrow.Author.Tests.{ne_eqb}
 use lib.ListN.{length}
+use Rattle.std.specs.Prelude.{Option, Some, None, Ok}
 use Rattle.ring.proofs.Cases.{eqb_refl, impossible}
 use Rattle.book.specs.declared.circuits.RecordState.{RecordState}
 use Rattle.book.specs.declared.circuits.RecordState.TheVariants.{Live, Pending}
 use Rattle.book.specs.declared.circuits.Circuit.{Circuit}
 use Rattle.book.specs.declared.books.Book.{Book}
-use Rattle.book.specs.declared.orders.Lookup.{Lookup}
-use Rattle.book.specs.declared.orders.Lookup.TheVariants.{Found, Missing}
-use Rattle.book.specs.declared.orders.ShowAnswer.TheVariants as show
 use Rattle.book.specs.Circuits.{live_state, is_live, circuit}
 use Rattle.book.specs.Books.{records_of, live_in, live_of, Valid}
 use Rattle.book.specs.Orders.{lookup, live_found, missing, show_found, shown}
@@ -60,7 +58,7 @@ live_stands (c ∷ cs) rising i h =
 
 -- a live circuit of a valid book is shown under its serial
 pub live_shown : (b : Book) → Valid b → (i : ℕ) → i < length (live_of b)
-    → shown b (circuit (live_of b) i).serial ≡ show.Shown (circuit (live_of b) i)
+    → shown b (circuit (live_of b) i).serial ≡ Ok (circuit (live_of b) i)
 live_shown b v i h =
     let serial = (circuit (live_of b) i).serial in
     let given = live_all (λ c. (1 ≤ c.serial) × (c.serial ≤ b.grants)) (records_of b) v.circuits.given i h in
@@ -74,13 +72,13 @@ pub record ShownAt (b : Book) (c : Circuit) : Type 0 where
   pub below : place < length (records_of b)
   pub there : circuit (records_of b) place ≡ c
 
-pub shown_at : (b : Book) (s : ℕ) (c : Circuit) → shown b s ≡ show.Shown c → ShownAt b c
+pub shown_at : (b : Book) (s : ℕ) (c : Circuit) → shown b s ≡ Ok c → ShownAt b c
 unfolding shown
 shown_at b s c e = go (live_found (lookup b s)) refl e
   where
-    go : (l : Lookup) → live_found (lookup b s) ≡ l → show_found l (missing b s) ≡ show.Shown c → ShownAt b c
-    go (Found i d) q r =
+    go : (l : Option (ℕ × Circuit)) → live_found (lookup b s) ≡ l → show_found l (missing b s) ≡ Ok c → ShownAt b c
+    go (Some (i, d)) q r =
         let same : d ≡ c = cc in
         let found = live_found_lem b s i d q in
         record { place = i; below = found_place b s i d found; there = found_there b s i d found ∙ same }
-    go Missing q r = impossible (cc)
+    go None q r = impossible (cc)

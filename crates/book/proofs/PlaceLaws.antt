@@ -9,19 +9,16 @@ use lib.Dec.{eqb, leb, ltb}
 use lib.ListN.{length, set, replicate, length-append, length-set, length-replicate, get_or-replicate}
 use lib.Seq.{get_or-append-add, get_or-set_same, get_or-set_other}
 use borrow.Author.Tests.{ne_eqb, leb-true}
+use Rattle.std.specs.Prelude.{Ok, Err}
 use Rattle.ring.specs.declared.refusals.Refusal.TheVariants.{CircuitEnd, CircuitEndsEqual, WayNumber, ColourNumber, ColourHeld, BookFull}
 use Rattle.ring.specs.declared.refusals.Refusal.TheVariants.{SerialsUsedUp, CrewNumber}
-use Rattle.ring.specs.declared.refusals.Verdict.{Verdict}
-use Rattle.ring.specs.declared.refusals.Verdict.TheVariants as verdict
 use Rattle.ring.specs.Requests.{request_of}
-use Rattle.ring.specs.Refusals.{refuse_if, or_else}
+use Rattle.ring.specs.Refusals.{Verdict, refuse_if, or_else}
 use Rattle.ring.specs.Admission.{ends_verdict}
 use Rattle.ring.proofs.Cases.{impossible}
 use Rattle.ring.proofs.AdmissionLaws.{refuse_refused, either_refused}
 use Rattle.book.specs.declared.circuits.Circuit.{Circuit}
 use Rattle.book.specs.declared.books.Book.{Book}
-use Rattle.book.specs.declared.grants.GrantAnswer.TheVariants as grant
-use Rattle.book.specs.declared.confirmations.ConfirmAnswer.TheVariants as confirm
 use Rattle.book.specs.Circuits.{vacant, as_pending, circuit}
 use Rattle.book.specs.Crews.{crew_verdict}
 use Rattle.book.specs.Books.{records_of, Valid}
@@ -81,11 +78,11 @@ module _ (b : Book) (v : Valid b) where
   }
 
 module _ (b : Book) (v : Valid b) where
-  takes : (x y way colour crew serial : ℕ) → (granted b x y way colour crew).answer ≡ grant.Granted serial
+  takes : (x y way colour crew serial : ℕ) → (granted b x y way colour crew).answer ≡ Ok serial
       → TakesVacantPlace b (granted b x y way colour crew).book (circuit_of serial x y way colour crew)
   takes x y way colour crew serial =
       grant_cases b x y way colour crew
-      (λ d. d.answer ≡ grant.Granted serial → TakesVacantPlace b d.book (circuit_of serial x y way colour crew))
+      (λ d. d.answer ≡ Ok serial → TakesVacantPlace b d.book (circuit_of serial x y way colour crew))
       (λ good e. let s : b.grants + 1 ≡ serial = cc in
       subst
       (λ (k : ℕ). TakesVacantPlace b (with_circuit b (circuit_of (b.grants + 1) x y way colour crew)) (circuit_of k x y way colour crew)) s
@@ -120,15 +117,15 @@ module _ (b : Book) (v : Valid b) where
         v.circuits.room,
       )
 
-  frees : (serial : ℕ) → (confirmed b serial).answer ≡ confirm.Confirmed
+  frees : (serial : ℕ) → (confirmed b serial).answer ≡ Ok tt
       → vacant_places (confirmed b serial).book.places ≡ suc (vacant_places b.places)
   frees serial =
       confirmation_cases b serial
-      (λ d. d.answer ≡ confirm.Confirmed → vacant_places d.book.places ≡ suc (vacant_places b.places))
+      (λ d. d.answer ≡ Ok tt → vacant_places d.book.places ≡ suc (vacant_places b.places))
       (λ i h named pending e. one_less i h) (λ r e. impossible (cc))
 
 -- 12 is said only by the test for places
-full_argument : (n w x y way colour crew : ℕ) → argument_verdict n w x y way colour crew ≡ verdict.Refused BookFull → ⊥
+full_argument : (n w x y way colour crew : ℕ) → argument_verdict n w x y way colour crew ≡ Err BookFull → ⊥
 unfolding argument_verdict ends_verdict crew_verdict
 full_argument n w x y way colour crew e =
     let outside = refuse_if (leb n x || leb n y) CircuitEnd in
@@ -150,7 +147,7 @@ full_argument n w x y way colour crew e =
     (either_refused ways (or_else colours crews) BookFull p))
     (either_refused (or_else outside equal) (or_else ways (or_else colours crews)) BookFull e)
 
-full_room : (records grants : ℕ) → room_verdict records grants ≡ verdict.Refused BookFull → 512 ≤ records
+full_room : (records grants : ℕ) → room_verdict records grants ≡ Err BookFull → 512 ≤ records
 unfolding room_verdict
 full_room records grants e =
     ⊎_elim
@@ -158,7 +155,7 @@ full_room records grants e =
     (λ p. let g = refuse_refused (leb 65535 grants) SerialsUsedUp BookFull p in impossible (cc))
     (either_refused (refuse_if (leb 512 records) BookFull) (refuse_if (leb 65535 grants) SerialsUsedUp) BookFull e)
 
-full_verdict : (b : Book) (x y way colour crew : ℕ) → grant_verdict b x y way colour crew ≡ verdict.Refused BookFull → 512 ≤ b.records
+full_verdict : (b : Book) (x y way colour crew : ℕ) → grant_verdict b x y way colour crew ≡ Err BookFull → 512 ≤ b.records
 unfolding grant_verdict
 full_verdict b x y way colour crew e =
     let held = colour_held b (way_of way) (request_of x y) colour in
@@ -171,16 +168,16 @@ full_verdict b x y way colour crew e =
     (either_refused (refuse_if held ColourHeld) room BookFull p))
     (either_refused (argument_verdict b.n b.w x y way colour crew) (or_else (refuse_if held ColourHeld) room) BookFull e)
 
-full : (b : Book) → Valid b → (x y way colour crew : ℕ) → (granted b x y way colour crew).answer ≡ grant.Refused BookFull
+full : (b : Book) → Valid b → (x y way colour crew : ℕ) → (granted b x y way colour crew).answer ≡ Err BookFull
     → vacant_places b.places ≡ 0
 unfolding granted
 full b v x y way colour crew e =
     omega (arith, vacant_count b v, valid_records b v, full_verdict b x y way colour crew (go (grant_verdict b x y way colour crew) e))
   where
-    go : (t : Verdict) → (grant_unless t b (circuit_of (b.grants + 1) x y way colour crew)).answer ≡ grant.Refused BookFull
-        → t ≡ verdict.Refused BookFull
-    go verdict.Allowed q = impossible (cc)
-    go (verdict.Refused r) q = cc
+    go : (t : Verdict) → (grant_unless t b (circuit_of (b.grants + 1) x y way colour crew)).answer ≡ Err BookFull
+        → t ≡ Err BookFull
+    go (Ok allowed) q = impossible (cc)
+    go (Err r) q = cc
 
 pub places_used_again : PlacesUsedAgain
 places_used_again b v = record { takes = takes b v; stays = stays b v; frees = frees b v; full = full b v }

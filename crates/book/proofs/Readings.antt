@@ -7,20 +7,16 @@ use native.Mathlib.Omega.{arith}
 use lib.Dec.{eqb, leb}
 use lib.ListN.{length}
 use borrow.Author.Tests.{eqb-true, ne_eqb, leb-false}
+use Rattle.std.specs.Prelude.{Option, Some, None, Ok, Err}
 use Rattle.ring.specs.declared.refusals.Refusal.{Refusal}
 use Rattle.ring.specs.declared.refusals.Refusal.TheVariants.{SerialNeverGiven, LinkNumber, ColourNumber}
-use Rattle.ring.specs.declared.refusals.Verdict.{Verdict}
-use Rattle.ring.specs.declared.refusals.Verdict.TheVariants.{Allowed, Refused}
-use Rattle.ring.specs.Refusals.{refuse_if, or_else}
+use Rattle.ring.specs.Refusals.{Verdict, refuse_if, or_else}
 use Rattle.ring.proofs.Cases.{impossible}
 use Rattle.ring.proofs.AdmissionLaws.{refuse_allowed, both_allowed}
 use Rattle.book.specs.declared.circuits.Circuit.{Circuit}
 use Rattle.book.specs.declared.books.Book.{Book}
-use Rattle.book.specs.declared.orders.Lookup.{Lookup}
-use Rattle.book.specs.declared.orders.Lookup.TheVariants.{Found, Missing}
-use Rattle.book.specs.declared.orders.ShowAnswer.TheVariants as show
-use Rattle.book.specs.declared.holders.HolderAnswer.{HolderAnswer}
-use Rattle.book.specs.declared.holders.HolderAnswer.TheVariants as holder
+use Rattle.book.specs.declared.holders.Holder.{Holder}
+use Rattle.book.specs.declared.holders.Holder.TheVariants as holder
 use Rattle.book.specs.Circuits.{is_live, desk, circuit, some_circuit, holds}
 use Rattle.book.specs.Books.{records_of, Valid}
 use Rattle.book.specs.Crews.{crew_verdict, is_own, orders_in}
@@ -37,37 +33,37 @@ unfolding shown_to held_for held_by crew_verdict
 desk_reads b = record { orders = λ serial. refl; holders = λ link colour. refl }
 
 -- a crew is shown no circuit that the desk is not shown: its own must be live
-pub shown_desk : (crew : ℕ) (b : Book) (s : ℕ) (c : Circuit) → shown_to crew b s ≡ show.Shown c → shown b s ≡ show.Shown c
+pub shown_desk : (crew : ℕ) (b : Book) (s : ℕ) (c : Circuit) → shown_to crew b s ≡ Ok c → shown b s ≡ Ok c
 unfolding shown_to shown own_shown
 shown_desk crew b s c = verdicts (crew_verdict crew)
   where
-    lives : (i : ℕ) (d : Circuit) (t u : Bool) → show_found (cond (t && u) (Found i d) Missing) SerialNeverGiven ≡ show.Shown c
-        → show_found (cond t (Found i d) Missing) (missing b s) ≡ show.Shown c
+    lives : (i : ℕ) (d : Circuit) (t u : Bool) → show_found (cond (t && u) (Some (i, d)) None) SerialNeverGiven ≡ Ok c
+        → show_found (cond t (Some (i, d)) None) (missing b s) ≡ Ok c
     lives i d true true e = e
     lives i d true false e = impossible (cc)
     lives i d false u e = impossible (cc)
 
-    own : (l : Lookup) → show_found (own_found crew l) SerialNeverGiven ≡ show.Shown c
-        → show_found (live_found l) (missing b s) ≡ show.Shown c
-    own (Found i d) e = lives i d (is_live d) (eqb d.crew crew) e
-    own Missing e = impossible (cc)
+    own : (l : Option (ℕ × Circuit)) → show_found (own_found crew l) SerialNeverGiven ≡ Ok c
+        → show_found (live_found l) (missing b s) ≡ Ok c
+    own (Some (i, d)) e = lives i d (is_live d) (eqb d.crew crew) e
+    own None e = impossible (cc)
 
-    read : (t : Bool) → cond t (shown b s) (own_shown crew b s) ≡ show.Shown c → shown b s ≡ show.Shown c
+    read : (t : Bool) → cond t (shown b s) (own_shown crew b s) ≡ Ok c → shown b s ≡ Ok c
     read true e = e
     read false e = own (lookup b s) e
 
-    verdicts : (v : Verdict) → show_unless v (cond (eqb crew desk) (shown b s) (own_shown crew b s)) ≡ show.Shown c
-        → shown b s ≡ show.Shown c
-    verdicts Allowed e = read (eqb crew desk) e
-    verdicts (Refused r) e = impossible (cc)
+    verdicts : (v : Verdict) → show_unless v (cond (eqb crew desk) (shown b s) (own_shown crew b s)) ≡ Ok c
+        → shown b s ≡ Ok c
+    verdicts (Ok allowed) e = read (eqb crew desk) e
+    verdicts (Err r) e = impossible (cc)
 
 -- ---- a crew's orders stand for the records
 
-lookup_none : (cs : List Circuit) (j s : ℕ) → ((i : ℕ) → i < length cs → eqb (circuit cs i).serial s ≡ false) → lookup_in j cs s ≡ Missing
+lookup_none : (cs : List Circuit) (j s : ℕ) → ((i : ℕ) → i < length cs → eqb (circuit cs i).serial s ≡ false) → lookup_in j cs s ≡ None
 unfolding lookup_in
 lookup_none [] j s f = refl
 lookup_none (c ∷ cs) j s f =
-    ap (λ (t : Bool). cond t (Found j c) (lookup_in (j + 1) cs s)) (f 0 (omega arith))
+    ap (λ (t : Bool). cond t (Some (j, c)) (lookup_in (j + 1) cs s)) (f 0 (omega arith))
     ∙ lookup_none cs (j + 1) s (λ i h. f (suc i) (omega arith))
 
 module _ (crew : ℕ) where
@@ -84,7 +80,7 @@ module _ (crew : ℕ) where
       go false later j k = later j k
 
   none_own : (cs : List Circuit) (j s : ℕ) → ((i : ℕ) → i < length cs → eqb (circuit cs i).serial s ≡ false)
-      → lookup_in j (orders_in crew cs) s ≡ Missing
+      → lookup_in j (orders_in crew cs) s ≡ None
   none_own cs j s f = lookup_none (orders_in crew cs) j s (orders_all (λ c. eqb c.serial s ≡ false) cs f)
 
   -- serials rise, so that behind a record that is not the crew's own there is none of its serial
@@ -99,27 +95,26 @@ module _ (crew : ℕ) where
     where
       go : (t : Bool) → eqb c.serial s ≡ t → (u : Bool) → is_own crew c ≡ u
           → ((m : ℕ) → show_found (own_found crew (lookup_in (i + 1) cs s)) r ≡ show_found (lookup_in m (orders_in crew cs) s) r)
-          → show_found (own_found crew (cond t (Found i c) (lookup_in (i + 1) cs s))) r
+          → show_found (own_found crew (cond t (Some (i, c)) (lookup_in (i + 1) cs s))) r
           ≡ show_found (lookup_in j (cond u (c ∷ orders_in crew cs) (orders_in crew cs)) s) r
       go true p true q later =
-          ap (λ (v : Bool). show_found (cond v (Found i c) Missing) r) q
-          ∙ sym (ap (λ (v : Bool). show_found (cond v (Found j c) (lookup_in (j + 1) (orders_in crew cs) s)) r) p)
+          ap (λ (v : Bool). show_found (cond v (Some (i, c)) None) r) q
+          ∙ sym (ap (λ (v : Bool). show_found (cond v (Some (j, c)) (lookup_in (j + 1) (orders_in crew cs) s)) r) p)
       go true p false q later =
-          ap (λ (v : Bool). show_found (cond v (Found i c) Missing) r) q
-          ∙ sym (ap (λ (l : Lookup). show_found l r) (none_own cs j s (λ k h.
+          ap (λ (v : Bool). show_found (cond v (Some (i, c)) None) r) q
+          ∙ sym (ap (λ (l : Option (ℕ × Circuit)). show_found l r) (none_own cs j s (λ k h.
           let e = eqb-true c.serial s p in
           let g = rising 0 (suc k) (omega arith) (omega arith) in
           ne_eqb (circuit cs k).serial s (λ q. omega arith))))
       go false p true q later =
-          later (j + 1) ∙ sym (ap (λ (v : Bool). show_found (cond v (Found j c) (lookup_in (j + 1) (orders_in crew cs) s)) r) p)
+          later (j + 1) ∙ sym (ap (λ (v : Bool). show_found (cond v (Some (j, c)) (lookup_in (j + 1) (orders_in crew cs) s)) r) p)
       go false p false q later = later j
 
   -- the crew's order that holds, or else whether anything does
-  abbrev learnt : HolderAnswer → Bool → HolderAnswer
+  abbrev learnt : Holder → Bool → Holder
   learnt holder.Free held = cond held holder.Held holder.Free
   learnt holder.Held held = holder.Held
   learnt (holder.HeldBy s) held = holder.HeldBy s
-  learnt (holder.Refused r) held = holder.Refused r
 
   -- one record at the most holds a colour on a link, so that behind one that is not the crew's own no order of it does
   own_holder : (cs : List Circuit) (link colour : ℕ) → eqb crew desk ≡ false
@@ -145,7 +140,7 @@ module _ (crew : ℕ) where
           ∙ sym (ap (λ (v : Bool). learnt (cond v (told_to desk c) (holder_in desk (orders_in crew cs) link colour)) true) p)
       go true p false q later =
           told false q
-          ∙ sym (ap (λ (a : HolderAnswer). learnt a true) (none_holds (orders_in crew cs) link colour
+          ∙ sym (ap (λ (a : Holder). learnt a true) (none_holds (orders_in crew cs) link colour
           (orders_all (λ d. holds d link colour ≡ false) cs (λ i h. apart 0 (suc i) (omega arith) (omega arith) p))))
       go false p true q later =
           later
@@ -161,9 +156,9 @@ module _ (crew : ℕ) (b : Book) (v : Valid b) where
   own_shown_lem s = go (never_given b.grants s) refl
     where
       go : (t : Bool) → never_given b.grants s ≡ t
-          → show_found (own_found crew (cond t Missing (lookup_in 0 (records_of b) s))) SerialNeverGiven
+          → show_found (own_found crew (cond t None (lookup_in 0 (records_of b) s))) SerialNeverGiven
           ≡ show_found (lookup_in 0 (orders_in crew (records_of b)) s) SerialNeverGiven
-      go true e = sym (ap (λ (l : Lookup). show_found l SerialNeverGiven)
+      go true e = sym (ap (λ (l : Option (ℕ × Circuit)). show_found l SerialNeverGiven)
           (none_own crew (records_of b) 0 s (λ i h. ne_eqb (circuit (records_of b) i).serial s (λ q.
           let g = v.circuits.given i h in
           impossible (sym e ∙ given_not b.grants s (omega arith) (omega arith))))))
@@ -183,7 +178,7 @@ module _ (crew : ℕ) (b : Book) (v : Valid b) where
   held_own other link colour h = own_holder crew (records_of b) link colour other (λ i j l k. v.circuits.apart i j l k link colour h)
 
 -- neither 16 nor 10
-within : (b : Book) (link colour : ℕ) → holder_verdict b link colour ≡ Allowed → (link < b.n) × (colour < b.w)
+within : (b : Book) (link colour : ℕ) → holder_verdict b link colour ≡ Ok tt → (link < b.n) × (colour < b.w)
 unfolding holder_verdict
 within b link colour e =
     let p = both_allowed (refuse_if (leb b.n link) LinkNumber) (refuse_if (leb b.w colour) ColourNumber) e in (
@@ -217,15 +212,15 @@ module _ (crew : ℕ) (b d : Book) (v : Valid b) (u : Valid d) (other : eqb crew
   unfolding held_for
   holders_alike link colour =
       go (crew_verdict crew) (holder_verdict b link colour) (within b link colour)
-      ∙ ap (λ (t : Verdict). holder_unless (or_else (crew_verdict crew) t) (holder_in crew (records_of d) link colour))
+      ∙ ap (λ (t : Verdict). holder_unless (or_else (crew_verdict crew) t) (Ok (holder_in crew (records_of d) link colour)))
       (verdicts_alike link colour)
     where
-      go : (s t : Verdict) → (t ≡ Allowed → (link < b.n) × (colour < b.w))
-          → holder_unless (or_else s t) (holder_in crew (records_of b) link colour)
-          ≡ holder_unless (or_else s t) (holder_in crew (records_of d) link colour)
-      go Allowed Allowed inside = let p = inside refl in inside_alike link colour p.0 p.1
-      go Allowed (Refused r) inside = refl
-      go (Refused r) t inside = refl
+      go : (s t : Verdict) → (t ≡ Ok tt → (link < b.n) × (colour < b.w))
+          → holder_unless (or_else s t) (Ok (holder_in crew (records_of b) link colour))
+          ≡ holder_unless (or_else s t) (Ok (holder_in crew (records_of d) link colour))
+      go (Ok crews) (Ok ranges) inside = let p = inside refl in ap Ok (inside_alike link colour p.0 p.1)
+      go (Ok allowed) (Err r) inside = refl
+      go (Err r) t inside = refl
 
 pub isolation : Isolation
 isolation b d v u crew other alike =

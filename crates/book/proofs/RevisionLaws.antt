@@ -6,12 +6,11 @@ use mathlib.Core.List.{List, [], ◌∷◌, ◌++◌}
 use native.Mathlib.Omega.{arith}
 use native.Mathlib.Numerals.{add-one}
 use lib.ListN.{length, take, drop, set}
+use Rattle.std.specs.Prelude.{Ok, Err}
 use Rattle.ring.proofs.Cases.{compare, less, not_less, impossible}
 use Rattle.book.specs.declared.circuits.RecordState.TheVariants.{Live, Pending}
 use Rattle.book.specs.declared.circuits.Circuit.{Circuit}
 use Rattle.book.specs.declared.books.Book.{Book}
-use Rattle.book.specs.declared.grants.GrantAnswer.TheVariants as grant
-use Rattle.book.specs.declared.removals.RemoveAnswer.TheVariants as remove
 use Rattle.book.specs.Circuits.{live_state, is_live, as_pending, circuit}
 use Rattle.book.specs.Books.{records_of, live_in, live_of, book_of, Valid, ValidCircuits, opened}
 use Rattle.book.specs.Grants.{circuit_of, with_circuit}
@@ -90,13 +89,13 @@ module _ (b : Book) (v : Valid b) where
 pub revision_rises : RevisionRises
 revision_rises b v = record {
   granting = λ x y way colour crew s. grant_cases b x y way colour crew
-      (λ d. d.answer ≡ grant.Granted s → revision d.book ≡ revision b + 1)
+      (λ d. d.answer ≡ Ok s → revision d.book ≡ revision b + 1)
       (λ good e. raised_by_grant b v x y way colour crew good) (λ r e. impossible (cc));
   granting_refused = λ x y way colour crew q. grant_cases b x y way colour crew
-      (λ d. d.answer ≡ grant.Refused q → revision d.book ≡ revision b) (λ good e. impossible (cc)) (λ r e. refl);
-  removing = λ s. removal_cases b s (λ d. d.answer ≡ remove.Removed → revision d.book ≡ revision b + 1)
+      (λ d. d.answer ≡ Err q → revision d.book ≡ revision b) (λ good e. impossible (cc)) (λ r e. refl);
+  removing = λ s. removal_cases b s (λ d. d.answer ≡ Ok tt → revision d.book ≡ revision b + 1)
       (λ i l serial live e. raised_by_removal b v i l live) (λ r e. impossible (cc));
-  removing_refused = λ s q. removal_cases b s (λ d. d.answer ≡ remove.Refused q → revision d.book ≡ revision b)
+  removing_refused = λ s q. removal_cases b s (λ d. d.answer ≡ Err q → revision d.book ≡ revision b)
       (λ i l serial live e. impossible (cc)) (λ r e. refl);
   confirming = λ s. confirmation_cases b s (λ d. revision d.book ≡ revision b)
       (λ i l serial pending. kept_by_confirmation b v i l pending) (λ r. refl);

@@ -6,14 +6,11 @@ use mathlib.Core.List.{List, [], ◌∷◌}
 use native.Mathlib.Omega.{arith}
 use lib.ListN.{length, drop}
 use lib.Seq.{drop-drop}
+use Rattle.std.specs.Prelude.{Ok, Err}
 use Rattle.ring.specs.declared.refusals.Refusal.TheVariants.{SerialRemoved}
-use Rattle.ring.specs.declared.refusals.Verdict.TheVariants as verdict
 use Rattle.ring.specs.Admission.{ring_verdict}
 use Rattle.ring.proofs.Cases.{is, yes, no, compare, less, not_less, impossible}
 use Rattle.book.specs.declared.books.Book.{Book}
-use Rattle.book.specs.declared.grants.GrantAnswer.TheVariants as grant
-use Rattle.book.specs.declared.removals.RemoveAnswer.TheVariants as remove
-use Rattle.book.specs.declared.orders.ShowAnswer.TheVariants as show
 use Rattle.book.specs.Books.{opened}
 use Rattle.book.specs.Orders.{shown}
 use Rattle.book.specs.History.{Call, Event, GrantAnswered, RemoveAnswered, ConfirmAnswered, ShowAnswered, HolderAnswered}
@@ -32,18 +29,18 @@ counted h = length (given h) + removals h
 
 -- no event lowers their number, and an accepted removal raises it
 counted_next : (e : Event) (h : List Event) → counted h ≤ counted (e ∷ h)
-counted_next (GrantAnswered x y way colour crew (grant.Granted s)) h = omega arith
-counted_next (GrantAnswered x y way colour crew (grant.Refused r)) h = omega arith
-counted_next (RemoveAnswered s remove.Removed) h = omega arith
-counted_next (RemoveAnswered s (remove.Refused r)) h = omega arith
+counted_next (GrantAnswered x y way colour crew (Ok s)) h = omega arith
+counted_next (GrantAnswered x y way colour crew (Err r)) h = omega arith
+counted_next (RemoveAnswered s (Ok done)) h = omega arith
+counted_next (RemoveAnswered s (Err r)) h = omega arith
 counted_next (ConfirmAnswered s a) h = omega arith
 counted_next (ShowAnswered s crew a) h = omega arith
 counted_next (HolderAnswered l k crew a) h = omega arith
 
 removal_counted : (e : Event) (h : List Event) (s : ℕ) → removes e s ≡ true → counted h < counted (e ∷ h)
 removal_counted (GrantAnswered x y way colour crew a) h s t = impossible (sym t)
-removal_counted (RemoveAnswered r remove.Removed) h s t = omega arith
-removal_counted (RemoveAnswered r (remove.Refused q)) h s t = impossible (sym t)
+removal_counted (RemoveAnswered r (Ok done)) h s t = omega arith
+removal_counted (RemoveAnswered r (Err q)) h s t = impossible (sym t)
 removal_counted (ConfirmAnswered r a) h s t = impossible (sym t)
 removal_counted (ShowAnswered r crew a) h s t = impossible (sym t)
 removal_counted (HolderAnswered l k crew a) h s t = impossible (sym t)
@@ -93,13 +90,13 @@ history_drop b calls zero = refl
 history_drop b [] (suc k) = refl
 history_drop b (call ∷ calls) (suc k) = history_drop b calls k
 
-removed_shows : (t : Standing) → is_removed t ≡ true → show_by t ≡ show.Refused SerialRemoved
+removed_shows : (t : Standing) → is_removed t ≡ true → show_by t ≡ Err SerialRemoved
 removed_shows Unknown e = impossible (sym e)
 removed_shows (IsLive c) e = impossible (sym e)
 removed_shows (IsPending c) e = refl
 removed_shows Gone e = refl
 
-not_shown : (n w : ℕ) → ring_verdict n w ≡ verdict.Allowed → (calls : List Call) (s : ℕ)
+not_shown : (n w : ℕ) → ring_verdict n w ≡ Ok tt → (calls : List Call) (s : ℕ)
     → was_removed (history (opened n w).book calls) s ≡ true → NotShown (run (opened n w).book calls) s
 not_shown n w e calls s r = record {
   desk = told;
@@ -112,7 +109,7 @@ not_shown n w e calls s r = record {
     kept : Kept n w (history (opened n w).book calls) b
     kept = subst (λ (d : Book). Kept n w (history d calls) (run d calls)) (sym (opened_book n w e)) (kept_run n w e calls)
 
-    told : shown b s ≡ show.Refused SerialRemoved
+    told : shown b s ≡ Err SerialRemoved
     told = shown_by b s ∙ removed_shows (standing_of b s) (sym (kept.orders s).removed ∙ r)
 
 pub not_revived : NotRevived

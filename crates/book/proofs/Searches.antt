@@ -1,104 +1,125 @@
--- The walks over the records, one place on: for one that has a property, for a holder, and counting.
-use Prim.Native.Nat.{ℕ, suc, ◌+◌, ◌-◌, ◌≤◌, ◌<◌}
-use mathlib.Core.Path.{◌≡◌, sym, ◌∙◌, ap}
-use mathlib.Core.Bool.{Bool, true, false, cond}
+-- The place that a search for a circuit gives, and what a lookup and a question about a holder make of it.
+use Prim.Native.Nat.{ℕ, suc, ◌+◌}
+use mathlib.Core.Path.{◌≡◌, refl, sym, ◌∙◌, ap}
+use mathlib.Core.Bool.{Bool, true, false, cond, not}
 use mathlib.Core.List.{List, [], ◌∷◌}
 use native.Mathlib.Omega.{arith}
-use lib.Dec.{ltb}
-use lib.ListN.{length, drop, get_or, drop_of_length-le}
+use native.Mathlib.Numerals.{one-add}
+use lib.Dec.{eqb, ltb}
+use lib.ListN.{length, get_or}
 use borrow.Author.Tests.{lt-ltb, le-ltb}
+use Rattle.ring.proofs.Cases.{compare, less, not_less}
+use Rattle.std.specs.Prelude.{Option, Some, None, position}
+use Rattle.std.specs.List.{position_or_len}
+use Rattle.std.specs.Option.{option_map}
+use Rattle.std.proofs.lemmas.List.Quantifiers.{position-Some}
 use Rattle.book.specs.declared.circuits.Circuit.{Circuit}
 use Rattle.book.specs.declared.books.Book.{Book}
-use Rattle.book.specs.declared.holders.HolderAnswer.{HolderAnswer}
-use Rattle.book.specs.declared.holders.HolderAnswer.TheVariants.{Free}
-use Rattle.book.specs.Circuits.{vacant, is_live, circuit, some_circuit, holds}
-use Rattle.book.specs.Books.{records_of, live_in}
+use Rattle.book.specs.declared.holders.Holder.{Holder}
+use Rattle.book.specs.declared.holders.Holder.TheVariants.{Free}
+use Rattle.book.specs.Circuits.{vacant, circuit, holds}
+use Rattle.book.specs.Books.{records_of}
+use Rattle.book.specs.Orders.{lookup_in}
 use Rattle.book.specs.Holders.{told_to, holder_in}
-use Rattle.book.specs.Internal.Places.{holder_place}
-use Rattle.book.proofs.Places.{list_next, next, none_left}
-use Rattle.book.proofs.States.{live_next}
+use Rattle.book.proofs.Places.{record_at}
 
--- the search for a record that has a property
-module _ (b : Book) (p : Circuit → Bool) (i : ℕ) where
-  pub some_found : i < length (records_of b) → p (get_or b.places i vacant) ≡ true → some_circuit (drop i (records_of b)) p ≡ true
-  unfolding some_circuit
-  some_found h e = rw (next b i h, e)
+-- one circuit on
+ltb_next : (i n : ℕ) → ltb (1 + i) (suc n) ≡ ltb i n
+ltb_next i n = elim (compare i n) [
+  | less l e ↦ lt-ltb (1 + i) (suc n) (omega arith) ∙ sym (lt-ltb i n l)
+  | not_less l e ↦ le-ltb (1 + i) (suc n) (omega arith) ∙ sym (le-ltb i n l)
+]
 
-  pub some_passed : i < length (records_of b) → p (get_or b.places i vacant) ≡ false
-      → some_circuit (drop i (records_of b)) p ≡ some_circuit (drop (i + 1) (records_of b)) p
-  unfolding some_circuit
-  some_passed h e = rw (next b i h, e)
-
-  pub some_ended : length (records_of b) ≤ i → some_circuit (drop i (records_of b)) p ≡ false
-  unfolding some_circuit
-  some_ended h = rw (none_left b i h)
-
--- counting the live records
-pub live_turn : (b : Book) (i live count : ℕ) (t : Bool) → i < length (records_of b) → t ≡ is_live (get_or b.places i vacant)
-    → count ≡ live + cond t 1 0
-    → (count ≤ live + 1) × (count + length (live_in (drop (i + 1) (records_of b))) ≡ live + length (live_in (drop i (records_of b))))
-live_turn b i live count t h e q =
-    let now : length (live_in (drop i (records_of b))) ≡ cond t 1 0 + length (live_in (drop (i + 1) (records_of b))) =
-    ap (λ (cs : List Circuit). length (live_in cs)) (next b i h)
-    ∙ live_next (get_or b.places i vacant) (drop (i + 1) (records_of b))
-    ∙ ap (λ (u : Bool). cond u 1 0 + length (live_in (drop (i + 1) (records_of b)))) (sym e) in
-    (few t q, omega arith)
+position_next : (p : Circuit → Bool) (c : Circuit) (cs : List Circuit)
+    → position p (c ∷ cs) ≡ cond (p c) (Some 0) (option_map suc (position p cs))
+position_next p c cs = go (p c)
   where
-    few : (u : Bool) → count ≡ live + cond u 1 0 → count ≤ live + 1
-    few true k = omega arith
-    few false k = omega arith
+    n : ℕ
+    n = position_or_len p cs
 
-pub live_ended : (b : Book) (i : ℕ) → length (records_of b) ≤ i → length (live_in (drop i (records_of b))) ≡ 0
-live_ended b i h = ap (λ (cs : List Circuit). length (live_in cs)) (none_left b i h)
+    some : (t : Bool) → cond t (Some (1 + n)) None ≡ option_map suc (cond t (Some n) None)
+    some true = ap Some (one-add n)
+    some false = refl
 
--- from place i of a list on
-module _ (cs : List Circuit) (link colour i : ℕ) where
-  pub holder_found : i < length cs → holds (get_or cs i vacant) link colour ≡ true → holder_place i (drop i cs) link colour ≡ i
-  unfolding holder_place
-  holder_found h e = rw (list_next cs i h, e)
+    go : (t : Bool) → cond (ltb (cond (not t) (1 + n) 0) (suc (length cs))) (Some (cond (not t) (1 + n) 0)) None
+        ≡ cond t (Some 0) (option_map suc (cond (ltb n (length cs)) (Some n) None))
+    go true = ap (λ (u : Bool). cond u (Some 0) None) (lt-ltb 0 (suc (length cs)) (omega arith))
+    go false = ap (λ (u : Bool). cond u (Some (1 + n)) None) (ltb_next n (length cs)) ∙ some (ltb n (length cs))
 
-  pub holder_passed : i < length cs → holds (get_or cs i vacant) link colour ≡ false
-      → holder_place i (drop i cs) link colour ≡ holder_place (i + 1) (drop (i + 1) cs) link colour
-  unfolding holder_place
-  holder_passed h e = rw (list_next cs i h, e)
+-- the record at a place that was found, behind the place, counted from i
+abbrev pub found_at : ℕ → List Circuit → Option ℕ → Option (ℕ × Circuit)
+found_at i cs None = None
+found_at i cs (Some k) = Some (i + k, circuit cs k)
 
-  pub holder_ended : length cs ≤ i → holder_place i (drop i cs) link colour ≡ i
-  unfolding holder_place
-  holder_ended h = rw (drop_of_length-le cs h)
-
--- what a crew learns stands at the holder's place
-place_from : (cs : List Circuit) (link colour i : ℕ) → i ≤ holder_place i cs link colour
-unfolding holder_place
-place_from [] link colour i = omega arith
-place_from (c ∷ cs) link colour i = go (holds c link colour) (place_from cs link colour (i + 1))
+pub lookup_place : (cs : List Circuit) (i s : ℕ) → lookup_in i cs s ≡ found_at i cs (position (λ c. eqb c.serial s) cs)
+unfolding lookup_in
+lookup_place [] i s = refl
+lookup_place (c ∷ cs) i s =
+    go (eqb c.serial s) (lookup_place cs (i + 1) s) ∙ ap (found_at i (c ∷ cs)) (sym (position_next (λ x. eqb x.serial s) c cs))
   where
-    go : (t : Bool) → i + 1 ≤ holder_place (i + 1) cs link colour → i ≤ cond t i (holder_place (i + 1) cs link colour)
-    go true h = omega arith
-    go false h = omega arith
+    place : Option ℕ
+    place = position (λ x. eqb x.serial s) cs
 
-module _ (crew : ℕ) where
-  abbrev answer_at : List Circuit → ℕ → ℕ → HolderAnswer
-  answer_at cs i place = cond (ltb place (i + length cs)) (told_to crew (circuit cs (place - i))) Free
+    later : (o : Option ℕ) → found_at (i + 1) cs o ≡ found_at i (c ∷ cs) (option_map suc o)
+    later None = refl
+    later (Some k) = let e : i + 1 + k ≡ i + suc k = omega arith in ap (λ (j : ℕ). Some (j, circuit cs k)) e
 
-  answer_next : (c : Circuit) (cs : List Circuit) (i place : ℕ) → i + 1 ≤ place → answer_at cs (i + 1) place ≡ answer_at (c ∷ cs) i place
-  answer_next c cs i place h =
-      let e₁ : i + 1 + length cs ≡ i + length (c ∷ cs) = omega arith in
-      let e₂ : suc (place - (i + 1)) ≡ place - i = omega arith in
-      ap (λ (m : ℕ). cond (ltb place m) (told_to crew (circuit cs (place - (i + 1)))) Free) e₁
-      ∙ ap (λ (k : ℕ). cond (ltb place (i + length (c ∷ cs))) (told_to crew (circuit (c ∷ cs) k)) Free) e₂
+    go : (t : Bool) → lookup_in (i + 1) cs s ≡ found_at (i + 1) cs place
+        → cond t (Some (i, c)) (lookup_in (i + 1) cs s) ≡ found_at i (c ∷ cs) (cond t (Some 0) (option_map suc place))
+    go true e = let z : i ≡ i + 0 = omega arith in ap (λ (j : ℕ). Some (j, c)) z
+    go false e = e ∙ later place
 
-  answer_first : (c : Circuit) (cs : List Circuit) (i : ℕ) → told_to crew c ≡ answer_at (c ∷ cs) i i
-  answer_first c cs i =
-      let e : 0 ≡ i - i = omega arith in
-      let t : ltb i (i + length (c ∷ cs)) ≡ true = lt-ltb i (i + length (c ∷ cs)) (omega arith) in
-      ap (λ (k : ℕ). told_to crew (circuit (c ∷ cs) k)) e ∙ ap (λ (s : Bool). cond s (told_to crew (circuit (c ∷ cs) (i - i))) Free) (sym t)
+-- the record of a serial, by the place that the search gives
+module _ (b : Book) (s : ℕ) where
+  abbrev place : Option ℕ
+  place = position (λ c. eqb c.serial s) (records_of b)
 
-  pub holder_answer : (cs : List Circuit) (link colour i : ℕ) → holder_in crew cs link colour ≡ answer_at cs i (holder_place i cs link colour)
-  unfolding holder_in holder_place
-  holder_answer [] link colour i = ap (λ (t : Bool). cond t (told_to crew (circuit [] (i - i))) Free) (sym (le-ltb i (i + 0) (omega arith)))
-  holder_answer (c ∷ cs) link colour i = go (holds c link colour) (holder_answer cs link colour (i + 1))
-    where
-      go : (t : Bool) → holder_in crew cs link colour ≡ answer_at cs (i + 1) (holder_place (i + 1) cs link colour)
-          → cond t (told_to crew c) (holder_in crew cs link colour) ≡ answer_at (c ∷ cs) i (cond t i (holder_place (i + 1) cs link colour))
-      go true e = answer_first c cs i
-      go false e = e ∙ answer_next c cs i (holder_place (i + 1) cs link colour) (place_from cs link colour (i + 1))
+  pub lookup_none : place ≡ None → None ≡ lookup_in 0 (records_of b) s
+  lookup_none e = ap (found_at 0 (records_of b)) (sym e) ∙ sym (lookup_place (records_of b) 0 s)
+
+  pub lookup_some : (k : ℕ) → place ≡ Some k → Some (k, get_or b.places k vacant) ≡ lookup_in 0 (records_of b) s
+  lookup_some k e =
+      let p = position-Some (λ c. eqb c.serial s) (records_of b) k vacant e in
+      let z : k ≡ 0 + k = omega arith in
+      ap (λ (c : Circuit). Some (k, c)) (record_at b k p.0)
+      ∙ ap (λ (j : ℕ). Some (j, circuit (records_of b) k)) z
+      ∙ ap (found_at 0 (records_of b)) (sym e) ∙ sym (lookup_place (records_of b) 0 s)
+
+-- what a crew learns of the circuit at the holder's place
+abbrev pub told_at : ℕ → List Circuit → Option ℕ → Holder
+told_at crew cs None = Free
+told_at crew cs (Some k) = told_to crew (circuit cs k)
+
+pub holder_place : (crew : ℕ) (cs : List Circuit) (link colour : ℕ)
+    → holder_in crew cs link colour ≡ told_at crew cs (position (λ c. holds c link colour) cs)
+unfolding holder_in
+holder_place crew [] link colour = refl
+holder_place crew (c ∷ cs) link colour =
+    go (holds c link colour) (holder_place crew cs link colour)
+    ∙ ap (told_at crew (c ∷ cs)) (sym (position_next (λ x. holds x link colour) c cs))
+  where
+    place : Option ℕ
+    place = position (λ x. holds x link colour) cs
+
+    later : (o : Option ℕ) → told_at crew cs o ≡ told_at crew (c ∷ cs) (option_map suc o)
+    later None = refl
+    later (Some k) = refl
+
+    go : (t : Bool) → holder_in crew cs link colour ≡ told_at crew cs place
+        → cond t (told_to crew c) (holder_in crew cs link colour) ≡ told_at crew (c ∷ cs) (cond t (Some 0) (option_map suc place))
+    go true e = refl
+    go false e = e ∙ later place
+
+-- the same of a book's records
+module _ (crew : ℕ) (b : Book) (link colour : ℕ) where
+  abbrev held : Option ℕ
+  held = position (λ c. holds c link colour) (records_of b)
+
+  pub holder_none : held ≡ None → Free ≡ holder_in crew (records_of b) link colour
+  holder_none e = ap (told_at crew (records_of b)) (sym e) ∙ sym (holder_place crew (records_of b) link colour)
+
+  pub holder_some : (k : ℕ) → held ≡ Some k → told_to crew (get_or b.places k vacant) ≡ holder_in crew (records_of b) link colour
+  holder_some k e =
+      let p = position-Some (λ c. holds c link colour) (records_of b) k vacant e in
+      ap (told_to crew) (record_at b k p.0)
+      ∙ ap (told_at crew (records_of b)) (sym e) ∙ sym (holder_place crew (records_of b) link colour)

@@ -4,9 +4,9 @@ use mathlib.Core.Path.{◌≡◌}
 use mathlib.Core.Bool.{false}
 use lib.Dec.{leb, ltb}
 use borrow.Author.Tests.{leb-false, ltb-false}
+use Rattle.std.specs.Prelude.{Ok}
 use Rattle.ring.specs.declared.refusals.Refusal.TheVariants.{CircuitEnd, CircuitEndsEqual, WayNumber, ColourNumber, ColourHeld, BookFull}
 use Rattle.ring.specs.declared.refusals.Refusal.TheVariants.{SerialsUsedUp, CrewNumber}
-use Rattle.ring.specs.declared.refusals.Verdict.TheVariants.{Allowed}
 use Rattle.ring.specs.Requests.{request_of}
 use Rattle.ring.specs.Refusals.{refuse_if, or_else}
 use Rattle.ring.specs.Admission.{ends_verdict}
@@ -16,7 +16,7 @@ use Rattle.book.specs.Crews.{crew_verdict}
 use Rattle.book.specs.Grants.{way_of, colour_held, argument_verdict, room_verdict, grant_verdict}
 
 -- not 26
-pub crew_limit : (crew : ℕ) → crew_verdict crew ≡ Allowed → crew ≤ 999
+pub crew_limit : (crew : ℕ) → crew_verdict crew ≡ Ok tt → crew ≤ 999
 unfolding crew_verdict
 crew_limit crew e = ltb-false 999 crew (refuse_allowed (ltb 999 crew) CrewNumber e)
 
@@ -27,7 +27,7 @@ pub record GoodArguments (n w x y way colour crew : ℕ) : Type 0 where
   pub colours : colour < w
   pub crews : crew ≤ 999
 
-pub good_arguments : (n w x y way colour crew : ℕ) → argument_verdict n w x y way colour crew ≡ Allowed
+pub good_arguments : (n w x y way colour crew : ℕ) → argument_verdict n w x y way colour crew ≡ Ok tt
     → GoodArguments n w x y way colour crew
 unfolding argument_verdict
 good_arguments n w x y way colour crew e =
@@ -45,7 +45,7 @@ good_arguments n w x y way colour crew e =
     }
 
 -- neither 12 nor 13
-pub good_room : (records grants : ℕ) → room_verdict records grants ≡ Allowed → (records < 512) × (grants < 65535)
+pub good_room : (records grants : ℕ) → room_verdict records grants ≡ Ok tt → (records < 512) × (grants < 65535)
 unfolding room_verdict
 good_room records grants e =
     let p = both_allowed (refuse_if (leb 512 records) BookFull) (refuse_if (leb 65535 grants) SerialsUsedUp) e in (
@@ -60,7 +60,7 @@ pub record GoodGrant (b : Book) (x y way colour crew : ℕ) : Type 0 where
   pub places : b.records < 512
   pub serials : b.grants < 65535
 
-pub good_grant : (b : Book) (x y way colour crew : ℕ) → grant_verdict b x y way colour crew ≡ Allowed → GoodGrant b x y way colour crew
+pub good_grant : (b : Book) (x y way colour crew : ℕ) → grant_verdict b x y way colour crew ≡ Ok tt → GoodGrant b x y way colour crew
 unfolding grant_verdict
 good_grant b x y way colour crew e =
     let held = colour_held b (way_of way) (request_of x y) colour in

@@ -1,14 +1,12 @@
 -- Books in one form: the records, live and pending, by rising serial, vacant ones behind them.
-use Rattle.std.specs.Prelude.{ℕ, ◌-◌, ◌≤◌, ◌<◌, ◌≡◌, Bool, true, false, cond, List, [], ◌∷◌, ◌++◌, length, take, replicate}
-use Rattle.ring.specs.declared.refusals.Verdict.{Verdict}
-use Rattle.ring.specs.declared.refusals.Verdict.TheVariants as verdict
+use Rattle.std.specs.Prelude.{ℕ, ◌-◌, ◌≤◌, ◌<◌, ◌≡◌, Bool, true, false, cond, List, [], ◌∷◌, ◌++◌, length, take, replicate, filter, Result}
+use Rattle.std.specs.Prelude.{Ok, Err, ⊤}
+use Rattle.ring.specs.declared.refusals.Refusal.{Refusal}
+use Rattle.ring.specs.Refusals.{Verdict}
 use Rattle.ring.specs.Answers.{InNumbers, gives, refuses}
 use Rattle.ring.specs.Admission.{ring_verdict}
 use Rattle.book.specs.declared.circuits.Circuit.{Circuit}
 use Rattle.book.specs.declared.books.Book.{Book}
-use Rattle.book.specs.declared.books.OpenAnswer.{OpenAnswer}
-use Rattle.book.specs.declared.books.OpenAnswer.TheVariants as answer
-use Rattle.book.specs.declared.books.Opened.{Opened}
 use Rattle.book.specs.Circuits.{vacant, is_live, is_marked, circuit, some_circuit, holds}
 
 -- the records, live and pending: those of the first `records` places
@@ -17,8 +15,7 @@ records_of b = take b.records b.places
 
 -- the live ones of some records
 abbrev pub live_in : List Circuit → List Circuit
-live_in [] = []
-live_in (c ∷ cs) = cond (is_live c) (c ∷ live_in cs) (live_in cs)
+live_in cs = filter is_live cs
 
 -- the pending ones
 abbrev pub pending_in : List Circuit → List Circuit
@@ -82,16 +79,30 @@ pub record Same (b d : Book) : Type 0 where
 abbrev pub SameMeans : Type 0
 SameMeans = (b d : Book) → Valid b → Valid d → Same b d → b ≡ d
 
--- a new book, or none: a book of no nodes, which turns every call down
+-- what comes of an opening: its answer, and a book
+pub record Opened : Type 0 where
+  pub answer : Result ⊤ Refusal
+  pub book : Book
+
+-- a book of no nodes, which turns every call down
+abbrev pub no_nodes : Book
+no_nodes = book_of 0 0 0 []
+
+-- an answer that gives a book, or a refusal; with a refusal stands the book of no nodes
+abbrev pub opening_of : Result Book Refusal → Opened
+opening_of (Ok b) = record { answer = Ok tt; book = b }
+opening_of (Err r) = record { answer = Err r; book = no_nodes }
+
+-- a new book, or none: a book of no nodes
 abbrev pub open_unless : Verdict → ℕ → ℕ → Opened
-open_unless verdict.Allowed n w = record { answer = answer.Opened; book = book_of n w 0 [] }
-open_unless (verdict.Refused r) n w = record { answer = answer.Refused r; book = book_of 0 0 0 [] }
+open_unless (Ok allowed) n w = record { answer = Ok tt; book = book_of n w 0 [] }
+open_unless (Err r) n w = record { answer = Err r; book = no_nodes }
 
 -- open: "1, 2"
 unfoldable pub opened : ℕ → ℕ → Opened
 opened n w = open_unless (ring_verdict n w) n w
 
 -- its answer in numbers
-abbrev pub open_in_numbers : OpenAnswer → InNumbers
-open_in_numbers answer.Opened = gives []
-open_in_numbers (answer.Refused r) = refuses r
+abbrev pub open_in_numbers : Result ⊤ Refusal → InNumbers
+open_in_numbers (Ok done) = gives []
+open_in_numbers (Err r) = refuses r

@@ -1,5 +1,6 @@
 -- Circuits, their states and crews, and the colours that they hold on links.
-use Rattle.std.specs.Prelude.{ℕ, Bool, true, false, not, ◌&&◌, ◌||◌, List, [], ◌∷◌, eqb, get_or}
+use Rattle.std.specs.Prelude.{ℕ, Bool, true, false, not, ◌&&◌, ◌||◌, List, eqb, get_or}
+use Rattle.std.specs.List.{list_any}
 use Rattle.ring.specs.declared.requests.Request.{Request}
 use Rattle.ring.specs.declared.ways.Way.TheVariants.{Plain}
 use Rattle.ring.specs.Ways.{uses}
@@ -43,8 +44,7 @@ circuit cs i = get_or cs i vacant
 
 -- some circuit of a list has the property
 unfoldable pub some_circuit : List Circuit → (Circuit → Bool) → Bool
-some_circuit [] p = false
-some_circuit (c ∷ cs) p = p c || some_circuit cs p
+some_circuit cs p = list_any p cs
 
 -- the two ends of a circuit
 abbrev pub ends_of : Circuit → Request

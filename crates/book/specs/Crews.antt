@@ -1,8 +1,7 @@
 -- Crews: contractors who read their own orders, and the desk, which reads all.
 use Rattle.std.specs.Prelude.{ℕ, Bool, cond, ◌&&◌, List, [], ◌∷◌, eqb, ltb}
 use Rattle.ring.specs.declared.refusals.Refusal.TheVariants.{CrewNumber}
-use Rattle.ring.specs.declared.refusals.Verdict.{Verdict}
-use Rattle.ring.specs.Refusals.{refuse_if}
+use Rattle.ring.specs.Refusals.{Verdict, refuse_if}
 use Rattle.book.specs.declared.circuits.Circuit.{Circuit}
 use Rattle.book.specs.Circuits.{is_live}
 

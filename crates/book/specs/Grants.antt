@@ -1,27 +1,27 @@
 -- Granting a circuit.
-use Rattle.std.specs.Prelude.{ℕ, ◌+◌, ◌≡◌, Bool, cond, ◌&&◌, List, [], ◌∷◌, eqb, leb, ltb, set}
+use Rattle.std.specs.Prelude.{ℕ, ◌+◌, ◌≡◌, Bool, cond, ◌&&◌, List, [], ◌∷◌, eqb, leb, ltb, set, Result, Ok, Err}
 use Rattle.ring.specs.declared.requests.Request.{Request}
 use Rattle.ring.specs.declared.ways.Way.{Way}
 use Rattle.ring.specs.declared.ways.Way.TheVariants.{Plain, Seam}
 use Rattle.ring.specs.declared.refusals.Refusal.{Refusal}
 use Rattle.ring.specs.declared.refusals.Refusal.TheVariants.{CircuitEnd, CircuitEndsEqual, WayNumber, ColourNumber, ColourHeld, BookFull}
 use Rattle.ring.specs.declared.refusals.Refusal.TheVariants.{SerialsUsedUp}
-use Rattle.ring.specs.declared.refusals.Verdict.{Verdict}
-use Rattle.ring.specs.declared.refusals.Verdict.TheVariants as verdict
 use Rattle.ring.specs.Requests.{request_of}
 use Rattle.ring.specs.Ways.{uses, some_link}
-use Rattle.ring.specs.Refusals.{refuse_if, or_else}
+use Rattle.ring.specs.Refusals.{Verdict, refuse_if, or_else}
 use Rattle.ring.specs.Answers.{InNumbers, gives, refuses}
 use Rattle.ring.specs.Admission.{ends_verdict}
 use Rattle.book.specs.declared.circuits.RecordState.TheVariants.{Live}
 use Rattle.book.specs.declared.circuits.Circuit.{Circuit}
 use Rattle.book.specs.declared.books.Book.{Book}
-use Rattle.book.specs.declared.grants.GrantAnswer.{GrantAnswer}
-use Rattle.book.specs.declared.grants.GrantAnswer.TheVariants as answer
-use Rattle.book.specs.declared.grants.Granted.{Granted}
 use Rattle.book.specs.Circuits.{some_circuit, holds}
 use Rattle.book.specs.Books.{records_of, Valid}
 use Rattle.book.specs.Crews.{crew_verdict}
+
+-- what comes of a grant: its answer, a serial or a refusal, and the book after it
+pub record Granted : Type 0 where
+  pub answer : Result ℕ Refusal
+  pub book : Book
 
 -- "way not 0 (plain) or 1 (seam)"
 abbrev pub way_of : ℕ → Way
@@ -71,21 +71,21 @@ with_circuit b c = record { n = b.n; w = b.w; grants = b.grants + 1; records = b
 
 -- the grant of a circuit; a refused grant changes nothing
 abbrev pub grant_unless : Verdict → Book → Circuit → Granted
-grant_unless verdict.Allowed b c = record { answer = answer.Granted c.serial; book = with_circuit b c }
-grant_unless (verdict.Refused r) b c = record { answer = answer.Refused r; book = b }
+grant_unless (Ok allowed) b c = record { answer = Ok c.serial; book = with_circuit b c }
+grant_unless (Err r) b c = record { answer = Err r; book = b }
 
 -- "Grant. .. Success gives the serial": one more than the grants so far
 unfoldable pub granted : Book → ℕ → ℕ → ℕ → ℕ → ℕ → Granted
 granted b x y way colour crew = grant_unless (grant_verdict b x y way colour crew) b (circuit_of (b.grants + 1) x y way colour crew)
 
 -- its answer in numbers: "Success gives the serial"
-abbrev pub grant_in_numbers : GrantAnswer → InNumbers
-grant_in_numbers (answer.Granted serial) = gives (serial ∷ [])
-grant_in_numbers (answer.Refused r) = refuses r
+abbrev pub grant_in_numbers : Result ℕ Refusal → InNumbers
+grant_in_numbers (Ok serial) = gives (serial ∷ [])
+grant_in_numbers (Err r) = refuses r
 
 -- the promise of grant. The grounds that lie in the arguments are those of any value of the struct; all others, and success, of the books
 -- that the rules speak of: 11 is computed by comparing ends, which says nothing of circuits that are not on the book's nodes
 pub record GrantPromise (b : Book) (x y way colour crew : ℕ) (result : Granted) : Type 0 where
-  pub arguments : (r : Refusal) → argument_verdict b.n b.w x y way colour crew ≡ verdict.Refused r
-      → result ≡ record { answer = answer.Refused r; book = b }
+  pub arguments : (r : Refusal) → argument_verdict b.n b.w x y way colour crew ≡ Err r
+      → result ≡ record { answer = Err r; book = b }
   pub valid : Valid b → result ≡ granted b x y way colour crew

@@ -1,22 +1,15 @@
 -- What every history of calls from open comes to, said of the calls and their answers: "about the desk's reading".
-use Rattle.std.specs.Prelude.{ℕ, zero, suc, ◌+◌, ◌<◌, ◌≡◌, Bool, true, false, ◌||◌, List, [], ◌∷◌, ◌⊎◌, ◌↔◌, eqb, length}
+use Rattle.std.specs.Prelude.{ℕ, zero, suc, ◌+◌, ◌<◌, ◌≡◌, Bool, true, false, ◌||◌, List, [], ◌∷◌, ◌⊎◌, ◌↔◌, eqb, length, Result, Ok, Err}
+use Rattle.std.specs.Prelude.{⊤}
+use Rattle.ring.specs.declared.refusals.Refusal.{Refusal}
 use Rattle.ring.specs.declared.refusals.Refusal.TheVariants.{SerialNeverGiven, SerialRemoved, SerialLive, SerialConfirmed}
-use Rattle.ring.specs.declared.refusals.Verdict.TheVariants as verdict
 use Rattle.ring.specs.Admission.{ring_verdict}
 use Rattle.ring.specs.Matchings.{NoTwice}
 use Rattle.ring.specs.Ways.{uses}
 use Rattle.book.specs.declared.circuits.Circuit.{Circuit}
 use Rattle.book.specs.declared.books.Book.{Book}
-use Rattle.book.specs.declared.grants.GrantAnswer.{GrantAnswer}
-use Rattle.book.specs.declared.grants.GrantAnswer.TheVariants as grant
-use Rattle.book.specs.declared.removals.RemoveAnswer.{RemoveAnswer}
-use Rattle.book.specs.declared.removals.RemoveAnswer.TheVariants as remove
-use Rattle.book.specs.declared.confirmations.ConfirmAnswer.{ConfirmAnswer}
-use Rattle.book.specs.declared.confirmations.ConfirmAnswer.TheVariants as confirm
-use Rattle.book.specs.declared.orders.ShowAnswer.{ShowAnswer}
-use Rattle.book.specs.declared.orders.ShowAnswer.TheVariants as show
-use Rattle.book.specs.declared.holders.HolderAnswer.{HolderAnswer}
-use Rattle.book.specs.declared.holders.HolderAnswer.TheVariants as holder
+use Rattle.book.specs.declared.holders.Holder.{Holder as Told}
+use Rattle.book.specs.declared.holders.Holder.TheVariants as holder
 use Rattle.book.specs.Circuits.{ends_of, holds}
 use Rattle.book.specs.Books.{live_of, Valid, opened}
 use Rattle.book.specs.Grants.{circuit_of, granted}
@@ -27,7 +20,7 @@ use Rattle.book.specs.Holders.{held_by, held_for}
 
 -- open gives a valid book, and grant, remove and confirm keep it so; the questions give no book
 pub record KeepsValid : Type 0 where
-  pub opening : (n w : ℕ) → ring_verdict n w ≡ verdict.Allowed → Valid (opened n w).book
+  pub opening : (n w : ℕ) → ring_verdict n w ≡ Ok tt → Valid (opened n w).book
   pub granting : (b : Book) → Valid b → (x y way colour crew : ℕ) → Valid (granted b x y way colour crew).book
   pub removing : (b : Book) → Valid b → (serial : ℕ) → Valid (removed b serial).book
   pub confirming : (b : Book) → Valid b → (serial : ℕ) → Valid (confirmed b serial).book
@@ -42,11 +35,11 @@ pub data Call : Type 0 where
 
 -- a call with its answer
 pub data Event : Type 0 where
-  GrantAnswered : (x y way colour crew : ℕ) → GrantAnswer → Event
-  RemoveAnswered : (serial : ℕ) → RemoveAnswer → Event
-  ConfirmAnswered : (serial : ℕ) → ConfirmAnswer → Event
-  ShowAnswered : (serial crew : ℕ) → ShowAnswer → Event
-  HolderAnswered : (link colour crew : ℕ) → HolderAnswer → Event
+  GrantAnswered : (x y way colour crew : ℕ) → Result ℕ Refusal → Event
+  RemoveAnswered : (serial : ℕ) → Result ⊤ Refusal → Event
+  ConfirmAnswered : (serial : ℕ) → Result ⊤ Refusal → Event
+  ShowAnswered : (serial crew : ℕ) → Result Circuit Refusal → Event
+  HolderAnswered : (link colour crew : ℕ) → Result Told Refusal → Event
 
 -- the answer of a call on a book
 abbrev pub event : Book → Call → Event
@@ -76,8 +69,8 @@ history b (call ∷ calls) = event (run b calls) call ∷ history b calls
 
 -- an accepted grant gave this serial to this circuit
 abbrev pub Gives : Event → ℕ → Circuit → Type 0
-Gives (GrantAnswered x y way colour crew (grant.Granted given)) serial c = (given ≡ serial) × (circuit_of given x y way colour crew ≡ c)
-Gives (GrantAnswered x y way colour crew (grant.Refused r)) serial c = ⊥
+Gives (GrantAnswered x y way colour crew (Ok given)) serial c = (given ≡ serial) × (circuit_of given x y way colour crew ≡ c)
+Gives (GrantAnswered x y way colour crew (Err r)) serial c = ⊥
 Gives (RemoveAnswered s a) serial c = ⊥
 Gives (ConfirmAnswered s a) serial c = ⊥
 Gives (ShowAnswered s crew a) serial c = ⊥
@@ -85,8 +78,8 @@ Gives (HolderAnswered l k crew a) serial c = ⊥
 
 -- an accepted grant gave this serial
 abbrev pub gave : Event → ℕ → Bool
-gave (GrantAnswered x y way colour crew (grant.Granted given)) serial = eqb given serial
-gave (GrantAnswered x y way colour crew (grant.Refused r)) serial = false
+gave (GrantAnswered x y way colour crew (Ok given)) serial = eqb given serial
+gave (GrantAnswered x y way colour crew (Err r)) serial = false
 gave (RemoveAnswered s a) serial = false
 gave (ConfirmAnswered s a) serial = false
 gave (ShowAnswered s crew a) serial = false
@@ -94,8 +87,8 @@ gave (HolderAnswered l k crew a) serial = false
 
 -- an accepted removal named this serial
 abbrev pub removes : Event → ℕ → Bool
-removes (RemoveAnswered named remove.Removed) serial = eqb named serial
-removes (RemoveAnswered named (remove.Refused r)) serial = false
+removes (RemoveAnswered named (Ok done)) serial = eqb named serial
+removes (RemoveAnswered named (Err r)) serial = false
 removes (GrantAnswered x y way colour crew a) serial = false
 removes (ConfirmAnswered s a) serial = false
 removes (ShowAnswered s crew a) serial = false
@@ -103,8 +96,8 @@ removes (HolderAnswered l k crew a) serial = false
 
 -- an accepted confirmation named this serial
 abbrev pub confirms : Event → ℕ → Bool
-confirms (ConfirmAnswered named confirm.Confirmed) serial = eqb named serial
-confirms (ConfirmAnswered named (confirm.Refused r)) serial = false
+confirms (ConfirmAnswered named (Ok done)) serial = eqb named serial
+confirms (ConfirmAnswered named (Err r)) serial = false
 confirms (GrantAnswered x y way colour crew a) serial = false
 confirms (RemoveAnswered s a) serial = false
 confirms (ShowAnswered s crew a) serial = false
@@ -139,8 +132,8 @@ was_confirmed (latest ∷ earlier) serial = confirms latest serial || was_confir
 -- the serials that the accepted grants gave, the latest first
 abbrev pub given : List Event → List ℕ
 given [] = []
-given (GrantAnswered x y way colour crew (grant.Granted serial) ∷ h) = serial ∷ given h
-given (GrantAnswered x y way colour crew (grant.Refused r) ∷ h) = given h
+given (GrantAnswered x y way colour crew (Ok serial) ∷ h) = serial ∷ given h
+given (GrantAnswered x y way colour crew (Err r) ∷ h) = given h
 given (RemoveAnswered s a ∷ h) = given h
 given (ConfirmAnswered s a ∷ h) = given h
 given (ShowAnswered s crew a ∷ h) = given h
@@ -149,8 +142,8 @@ given (HolderAnswered l k crew a ∷ h) = given h
 -- the number of accepted removals
 abbrev pub removals : List Event → ℕ
 removals [] = 0
-removals (RemoveAnswered s remove.Removed ∷ h) = suc (removals h)
-removals (RemoveAnswered s (remove.Refused r) ∷ h) = removals h
+removals (RemoveAnswered s (Ok done) ∷ h) = suc (removals h)
+removals (RemoveAnswered s (Err r) ∷ h) = removals h
 removals (GrantAnswered x y way colour crew a ∷ h) = removals h
 removals (ConfirmAnswered s a ∷ h) = removals h
 removals (ShowAnswered s crew a ∷ h) = removals h
@@ -159,8 +152,8 @@ removals (HolderAnswered l k crew a ∷ h) = removals h
 -- the number of accepted confirmations
 abbrev pub confirmations : List Event → ℕ
 confirmations [] = 0
-confirmations (ConfirmAnswered s confirm.Confirmed ∷ h) = suc (confirmations h)
-confirmations (ConfirmAnswered s (confirm.Refused r) ∷ h) = confirmations h
+confirmations (ConfirmAnswered s (Ok done) ∷ h) = suc (confirmations h)
+confirmations (ConfirmAnswered s (Err r) ∷ h) = confirmations h
 confirmations (GrantAnswered x y way colour crew a ∷ h) = confirmations h
 confirmations (RemoveAnswered s a ∷ h) = confirmations h
 confirmations (ShowAnswered s crew a ∷ h) = confirmations h
@@ -185,31 +178,31 @@ pub record AfterHistory (n w : ℕ) (h : List Event) (b : Book) : Type 0 where
   pub colours : b.w ≡ w
   pub grants : b.grants ≡ length (given h)
   -- show gives a circuit exactly if an accepted grant gave it this serial and no later accepted removal named it
-  pub shows : (serial : ℕ) (c : Circuit) → ((shown b serial ≡ show.Shown c) ↔ Live h serial c)
+  pub shows : (serial : ℕ) (c : Circuit) → ((shown b serial ≡ Ok c) ↔ Live h serial c)
   -- "14 serial 0 or never given": show, remove and confirm answer so exactly if no accepted grant gave the serial
-  pub unknown : (serial : ℕ) → ((shown b serial ≡ show.Refused SerialNeverGiven) ↔ (was_given h serial ≡ false))
-  pub unknown_removal : (serial : ℕ) → (((removed b serial).answer ≡ remove.Refused SerialNeverGiven) ↔ (was_given h serial ≡ false))
+  pub unknown : (serial : ℕ) → ((shown b serial ≡ Err SerialNeverGiven) ↔ (was_given h serial ≡ false))
+  pub unknown_removal : (serial : ℕ) → (((removed b serial).answer ≡ Err SerialNeverGiven) ↔ (was_given h serial ≡ false))
   pub unknown_confirmation : (serial : ℕ)
-      → (((confirmed b serial).answer ≡ confirm.Refused SerialNeverGiven) ↔ (was_given h serial ≡ false))
+      → (((confirmed b serial).answer ≡ Err SerialNeverGiven) ↔ (was_given h serial ≡ false))
   -- "15 removed": exactly if one gave it and an accepted removal named it
-  pub gone : (serial : ℕ) → ((shown b serial ≡ show.Refused SerialRemoved) ↔ ((was_given h serial ≡ true) × (was_removed h serial ≡ true)))
+  pub gone : (serial : ℕ) → ((shown b serial ≡ Err SerialRemoved) ↔ ((was_given h serial ≡ true) × (was_removed h serial ≡ true)))
   pub gone_removal : (serial : ℕ)
-      → (((removed b serial).answer ≡ remove.Refused SerialRemoved) ↔ ((was_given h serial ≡ true) × (was_removed h serial ≡ true)))
+      → (((removed b serial).answer ≡ Err SerialRemoved) ↔ ((was_given h serial ≡ true) × (was_removed h serial ≡ true)))
   -- "23 if the circuit is live": exactly if one gave it and no accepted removal named it
   pub still_live : (serial : ℕ)
-      → (((confirmed b serial).answer ≡ confirm.Refused SerialLive) ↔ ((was_given h serial ≡ true) × (was_removed h serial ≡ false)))
+      → (((confirmed b serial).answer ≡ Err SerialLive) ↔ ((was_given h serial ≡ true) × (was_removed h serial ≡ false)))
   -- "24 if already confirmed": exactly if an accepted confirmation named it
-  pub pulled : (serial : ℕ) → (((confirmed b serial).answer ≡ confirm.Refused SerialConfirmed) ↔ (was_confirmed h serial ≡ true))
+  pub pulled : (serial : ℕ) → (((confirmed b serial).answer ≡ Err SerialConfirmed) ↔ (was_confirmed h serial ≡ true))
   -- a colour on a link is held exactly if a live or pending circuit's way uses the link in that colour, and the holder is its order
   pub held : (link colour : ℕ) → link < n → colour < w → (serial : ℕ)
-      → ((held_by b link colour ≡ holder.HeldBy serial) ↔ Holding h link colour serial)
+      → ((held_by b link colour ≡ Ok (holder.HeldBy serial)) ↔ Holding h link colour serial)
   pub free : (link colour : ℕ) → link < n → colour < w
-      → ((held_by b link colour ≡ holder.Free) ↔ ((serial : ℕ) → Holding h link colour serial → ⊥))
+      → ((held_by b link colour ≡ Ok holder.Free) ↔ ((serial : ℕ) → Holding h link colour serial → ⊥))
   -- a removal frees no link: each colour on each link has the holder that it had
   pub keeps : (serial link colour : ℕ) → held_by (removed b serial).book link colour ≡ held_by b link colour
   -- a confirmation frees every link of the circuit's way; of a seam way those below a, from link 0 on, as well as those from b to n - 1
   pub frees : (serial : ℕ) (c : Circuit) → Pending h serial c → (link : ℕ) → link < n → uses c.way (ends_of c) link ≡ true
-      → held_by (confirmed b serial).book link c.colour ≡ holder.Free
+      → held_by (confirmed b serial).book link c.colour ≡ Ok holder.Free
   -- "The live count is the accepted grants less the accepted removals."
   pub count : length (live_of b) + removals h ≡ length (given h)
   -- "12 counts both": the records are the accepted grants less the accepted confirmations
@@ -220,5 +213,5 @@ pub record AfterHistory (n w : ℕ) (h : List Event) (b : Book) : Type 0 where
 
 -- demand 2 of the book: it is so after every list of calls from open
 abbrev pub EveryHistory : Type 0
-EveryHistory = (n w : ℕ) → ring_verdict n w ≡ verdict.Allowed → (calls : List Call)
+EveryHistory = (n w : ℕ) → ring_verdict n w ≡ Ok tt → (calls : List Call)
     → AfterHistory n w (history (opened n w).book calls) (run (opened n w).book calls)

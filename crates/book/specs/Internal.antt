@@ -1,4 +1,2 @@
 -- For contracts inside and for proofs alone: nothing here has to be believed.
 pub mod Conflicts
-pub mod Entering
-pub mod Places

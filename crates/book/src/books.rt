@@ -1,10 +1,8 @@
 // Books by value, in one form: the records, live and pending, first and by rising serial, vacant ones behind them.
-ghost use Rattle.std.specs.Prelude.{[], ◌≡◌, cond, ◌+◌, ◌≤◌, ◌<◌, length};
-ghost use Rattle.book.specs.Books.{records_of, live_of, has_marked, book_of, opened};
+ghost use Rattle.std.specs.Prelude.{[], ◌≡◌, ◌≤◌, length};
+ghost use Rattle.book.specs.Books.{records_of, live_of, has_marked, book_of, opening_of, opened};
 
-use super::circuits::{Circuit, is_live, is_marked};
-use ring::numbers::wide;
-use ring::rings::RingAnswer;
+use super::circuits::Circuit;
 use ring::{Refusal, Ring};
 
 #[derive(Clone, Copy)]
@@ -16,18 +14,6 @@ pub struct Book {
     pub places: [Circuit; 512],
 }
 
-#[derive(Clone, Copy)]
-pub enum OpenAnswer {
-    Opened,
-    Refused(Refusal),
-}
-
-#[derive(Clone, Copy)]
-pub struct Opened {
-    pub answer: OpenAnswer,
-    pub book: Book,
-}
-
 impl Book {
     pub const PLACES: usize = 512;
 
@@ -35,88 +21,51 @@ impl Book {
     pub fn blank(n: u16, w: u16, grants: u16) -> Book
         ensures { result ≡ book_of n w grants [] }
     {
-        let vacant = Circuit::vacant();
-        let places = [vacant; 512];
         Book {
-            n: n,
-            w: w,
-            grants: grants,
+            n,
+            w,
+            grants,
             records: 0,
-            places: places,
+            places: [Circuit::vacant(); 512],
         }
     }
-}
 
-// A new book on n nodes with w colours, or refusal 1 or 2 beside a book of no nodes.
-pub fn open(n: u16, w: u16) -> Opened
-    ensures { result ≡ opened n w }
-{
-    let answer = Ring::new(n, w);
-    match answer {
-        RingAnswer::Made(_) => {
-            let book = Book::blank(n, w, 0);
-            Opened {
-                answer: OpenAnswer::Opened,
-                book: book,
-            }
-        }
-        RingAnswer::Refused(refusal) => {
-            let book = Book::blank(0, 0, 0);
-            Opened {
-                answer: OpenAnswer::Refused(refusal),
-                book: book,
-            }
-        }
+    // A new book on n nodes with w colours, or refusal 1 or 2.
+    pub fn open(n: u16, w: u16) -> Result<Book, Refusal>
+        ensures { opening_of result ≡ opened n w }
+    {
+        Ring::new(n, w)?;
+        Ok(Book::blank(n, w, 0))
     }
-}
 
-// The number of records, live and pending: of any value of the struct, never more than there are places.
-pub fn record_count(book: Book) -> usize
-    ensures { (result ≡ length (records_of book)) × (result ≤ 512) }
-{
-    let count = wide(book.records);
-    if count < Book::PLACES {
-        count
-    } else {
-        Book::PLACES
+    // The number of records, live and pending: of any value of the struct, never more than there are places.
+    pub fn record_count(&self) -> usize
+        ensures { (result ≡ length (records_of self.now)) × (result ≤ 512) }
+    {
+        usize::from(self.records).min(Book::PLACES)
     }
-}
 
-// A count, or one more than it.
-fn counted(count: u16, counts: bool) -> u16
-    requires { count < 65535 }
-    ensures { result ≡ count + cond counts 1 0 }
-{
-    if counts { count + 1 } else { count }
-}
-
-// The number of live circuits.
-pub fn live_count(book: Book) -> u16
-    ensures { result ≡ length (live_of book) }
-{
-    let records = record_count(book);
-    let mut live: u16 = 0;
-    let mut i: usize = 0;
-    while i < records {
-        let circuit = book.places[i];
-        live = counted(live, is_live(circuit));
-        i += 1;
+    // The records, live and pending.
+    pub fn records(&self) -> &[Circuit]
+        ensures { result.now ≡ records_of self.now }
+    {
+        &self.places[..self.record_count()]
     }
-    live
-}
 
-// Whether some record is pending or not the desk's.
-pub fn has_marked(book: Book) -> bool
-    ensures { result ≡ has_marked book }
-{
-    let records = record_count(book);
-    let mut i: usize = 0;
-    while i < records {
-        let circuit = book.places[i];
-        if is_marked(circuit) {
-            return true;
-        }
-        i += 1;
+    // The number of live circuits.
+    pub fn live_count(&self) -> u16
+        ensures { result ≡ length (live_of self.now) }
+    {
+        self.records()
+            .iter()
+            .filter(|circuit| circuit.is_live())
+            .count() as u16
     }
-    false
+
+    // Whether some record is pending or not the desk's.
+    pub fn has_marked(&self) -> bool
+        ensures { result ≡ has_marked self.now }
+    {
+        self.records().iter().any(|circuit| circuit.is_marked())
+    }
 }

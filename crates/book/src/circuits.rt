@@ -2,12 +2,11 @@
 ghost use Rattle.std.specs.Prelude.{◌≡◌};
 ghost use Rattle.book.specs.Circuits.{vacant, is_live, is_marked, as_pending, ends_of, holds};
 
-use ring::flags::{both, either};
 use ring::ways::uses;
 use ring::{Request, Way};
 
 // A live circuit, or one that was removed and still shines until its pull is confirmed.
-#[derive(Clone, Copy)]
+#[derive(Clone, Copy, Debug, PartialEq, Eq)]
 pub enum RecordState {
     Live,
     Pending,
@@ -41,57 +40,45 @@ impl Circuit {
             crew: 0,
         }
     }
-}
 
-// The two ends of a circuit.
-pub fn ends_of(circuit: Circuit) -> Request
-    ensures { result ≡ ends_of circuit }
-{
-    Request {
-        a: circuit.a,
-        b: circuit.b,
+    // The two ends of the circuit.
+    pub fn ends(&self) -> Request
+        ensures { result ≡ ends_of self.now }
+    {
+        Request {
+            a: self.a,
+            b: self.b,
+        }
     }
-}
 
-// Whether the circuit is live.
-pub fn is_live(circuit: Circuit) -> bool
-    ensures { result ≡ is_live circuit }
-{
-    let state = circuit.state;
-    match state {
-        RecordState::Live => true,
-        RecordState::Pending => false,
+    // Whether the circuit is live.
+    pub fn is_live(&self) -> bool
+        ensures { result ≡ is_live self.now }
+    {
+        self.state == RecordState::Live
     }
-}
 
-// Whether the record is pending or not the desk's, for which the old stored form has no room.
-pub fn is_marked(circuit: Circuit) -> bool
-    ensures { result ≡ is_marked circuit }
-{
-    either(!is_live(circuit), circuit.crew != 0)
-}
-
-// The same circuit, pending.
-pub fn as_pending(circuit: Circuit) -> Circuit
-    ensures { result ≡ as_pending circuit }
-{
-    let way = circuit.way;
-    let ends = ends_of(circuit);
-    Circuit {
-        serial: circuit.serial,
-        a: ends.a,
-        b: ends.b,
-        way: way,
-        state: RecordState::Pending,
-        colour: circuit.colour,
-        crew: circuit.crew,
+    // Whether the record is pending or not the desk's, for which the old stored form has no room.
+    pub fn is_marked(&self) -> bool
+        ensures { result ≡ is_marked self.now }
+    {
+        !self.is_live() || self.crew != 0
     }
-}
 
-// Whether the circuit is of that colour and its way uses the link.
-pub fn holds(circuit: Circuit, link: u16, colour: u16) -> bool
-    ensures { result ≡ holds circuit link colour }
-{
-    let way = circuit.way;
-    both(circuit.colour == colour, uses(way, ends_of(circuit), link))
+    // The same circuit, pending.
+    pub fn as_pending(self) -> Circuit
+        ensures { result ≡ as_pending self }
+    {
+        Circuit {
+            state: RecordState::Pending,
+            ..self
+        }
+    }
+
+    // Whether the circuit is of that colour and its way uses the link.
+    pub fn holds(&self, link: u16, colour: u16) -> bool
+        ensures { result ≡ holds self.now link colour }
+    {
+        self.colour == colour && uses(self.way, self.ends(), link)
+    }
 }

@@ -1,156 +1,124 @@
 // Granting a circuit.
-ghost use Rattle.std.specs.Prelude.{◌≡◌};
+ghost use Rattle.std.specs.Prelude.{◌≡◌, IfErr};
+ghost use Rattle.ring.specs.Requests.{request_of};
 ghost use Rattle.book.specs.Books.{records_of};
 ghost use Rattle.book.specs.Grants.{way_of, circuit_of, argument_verdict, room_verdict, GrantPromise};
 ghost use Rattle.book.specs.Internal.Conflicts.{conflicts, conflict_in, verdict_by_ends};
-ghost use Rattle.book.specs.Internal.Entering.{next_serial, entered};
 
-use super::books::{Book, record_count};
-use super::circuits::{Circuit, RecordState, ends_of};
+use super::books::Book;
+use super::circuits::{Circuit, RecordState};
 use super::crews::crew_verdict;
-use ring::flags::both;
-use ring::numbers::wide;
-use ring::refusals::{Verdict, or_else, refuse_if};
+use ring::refusals::refuse_if;
 use ring::requests::ends_verdict;
 use ring::ways::ways_share;
 use ring::{Refusal, Request, Way};
 
+// A grant that is asked for: two ends in any order, the way (0 plain, 1 seam), the colour, the crew.
 #[derive(Clone, Copy)]
-pub enum GrantAnswer {
-    Granted(u16),
-    Refused(Refusal),
+pub struct Line {
+    pub x: u16,
+    pub y: u16,
+    pub way: u16,
+    pub colour: u16,
+    pub crew: u16,
 }
 
-#[derive(Clone, Copy)]
-pub struct Granted {
-    pub answer: GrantAnswer,
-    pub book: Book,
-}
+impl Line {
+    // The two ends.
+    fn request(self) -> Request
+        ensures { result ≡ request_of self.x self.y }
+    {
+        Request::new(self.x, self.y)
+    }
 
-// 0 plain, 1 seam.
-fn way_of(way: u16) -> Way
-    ensures { result ≡ way_of way }
-{
-    if way == 0 { Way::Plain } else { Way::Seam }
-}
+    // The way round the ring.
+    fn route(self) -> Way
+        ensures { result ≡ way_of self.way }
+    {
+        if self.way == 0 { Way::Plain } else { Way::Seam }
+    }
 
-// Whether a circuit is of that colour and its way shares a link with the way of the request.
-fn conflicts(circuit: Circuit, way: Way, request: Request, colour: u16) -> bool
-    ensures { result ≡ conflicts circuit way request colour }
-{
-    let other = circuit.way;
-    both(
-        circuit.colour == colour,
-        ways_share(way, request, other, ends_of(circuit)),
-    )
-}
+    // The first of the grounds 4, 5, 9, 10 and 26 that is there, on n nodes with w colours.
+    fn verdict(self, n: u16, w: u16) -> Result<(), Refusal>
+        ensures { result ≡ argument_verdict n w self.x self.y self.way self.colour self.crew }
+    {
+        ends_verdict(
+            n,
+            self.x,
+            self.y,
+            Refusal::CircuitEnd,
+            Refusal::CircuitEndsEqual,
+        )?;
+        refuse_if(1 < self.way, Refusal::WayNumber)?;
+        refuse_if(w <= self.colour, Refusal::ColourNumber)?;
+        crew_verdict(self.crew)
+    }
 
-// Whether some record, live or pending, does.
-fn colour_held(book: Book, way: Way, request: Request, colour: u16) -> bool
-    ensures { result ≡ conflict_in (records_of book) way request colour }
-{
-    let records = record_count(book);
-    let mut i: usize = 0;
-    while i < records {
-        let circuit = book.places[i];
-        if conflicts(circuit, way, request, colour) {
-            return true;
+    // The circuit that it asks for.
+    fn circuit(self, serial: u16) -> Circuit
+        ensures { result ≡ circuit_of serial self.x self.y self.way self.colour self.crew }
+    {
+        let request = self.request();
+        Circuit {
+            serial,
+            a: request.a,
+            b: request.b,
+            way: self.route(),
+            state: RecordState::Live,
+            colour: self.colour,
+            crew: self.crew,
         }
-        i += 1;
-    }
-    false
-}
-
-// The first of the grounds 4, 5, 9, 10 and 26 that is there.
-fn argument_verdict(n: u16, w: u16, x: u16, y: u16, way: u16, colour: u16, crew: u16) -> Verdict
-    ensures { result ≡ argument_verdict n w x y way colour crew }
-{
-    let ends = ends_verdict(n, x, y, Refusal::CircuitEnd, Refusal::CircuitEndsEqual);
-    let ways = refuse_if(1 < way, Refusal::WayNumber);
-    let colours = refuse_if(w <= colour, Refusal::ColourNumber);
-    let crews = crew_verdict(crew);
-    or_else(ends, or_else(ways, or_else(colours, crews)))
-}
-
-// 12 or 13, if there is no place or no serial for one circuit more.
-fn room_verdict(records: u16, grants: u16) -> Verdict
-    ensures { result ≡ room_verdict records grants }
-{
-    let places = refuse_if(512 <= records, Refusal::BookFull);
-    let serials = refuse_if(65535 <= grants, Refusal::SerialsUsedUp);
-    or_else(places, serials)
-}
-
-// The first of the grounds 4, 5, 9, 10, 26 and 11 to 13 that is there, 11 by comparing ends.
-fn grant_verdict(book: Book, x: u16, y: u16, way: u16, colour: u16, crew: u16) -> Verdict
-    ensures { result ≡ verdict_by_ends book x y way colour crew }
-{
-    let arguments = argument_verdict(book.n, book.w, x, y, way, colour, crew);
-    let route = way_of(way);
-    let request = Request::new(x, y);
-    let held = refuse_if(
-        colour_held(book, route, request, colour),
-        Refusal::ColourHeld,
-    );
-    let room = room_verdict(book.records, book.grants);
-    or_else(arguments, or_else(held, room))
-}
-
-// The serial behind the last one, as far as 16 bits go.
-fn next_serial(grants: u16) -> u16
-    ensures { result ≡ next_serial grants }
-{
-    if grants < 65535 { grants + 1 } else { 65535 }
-}
-
-// The circuit of a grant.
-fn circuit_of(serial: u16, x: u16, y: u16, way: u16, colour: u16, crew: u16) -> Circuit
-    ensures { result ≡ circuit_of serial x y way colour crew }
-{
-    let request = Request::new(x, y);
-    let route = way_of(way);
-    Circuit {
-        serial: serial,
-        a: request.a,
-        b: request.b,
-        way: route,
-        state: RecordState::Live,
-        colour: colour,
-        crew: crew,
     }
 }
 
-// The book with one circuit more, behind its records, if there is a place for it.
-fn enter(book: Book, circuit: Circuit) -> Book
-    ensures { result ≡ entered book circuit }
-{
-    let records = book.records;
-    if 512 <= records {
-        return book;
+impl Circuit {
+    // Whether the circuit is of that colour and its way shares a link with the way of the request.
+    fn conflicts(&self, way: Way, request: Request, colour: u16) -> bool
+        ensures { result ≡ conflicts self.now way request colour }
+    {
+        self.colour == colour && ways_share(way, request, self.way, self.ends())
     }
-    let mut changed = book;
-    let place = wide(records);
-    changed.places[place] = circuit;
-    changed.records = records + 1;
-    changed.grants = next_serial(book.grants);
-    changed
 }
 
-// The serial of the new circuit and the book with it, or the same book and a refusal.
-pub fn grant(book: Book, x: u16, y: u16, way: u16, colour: u16, crew: u16) -> Granted
-    ensures { GrantPromise book x y way colour crew result }
-{
-    let serial = next_serial(book.grants);
-    let changed = enter(book, circuit_of(serial, x, y, way, colour, crew));
-    let verdict = grant_verdict(book, x, y, way, colour, crew);
-    match verdict {
-        Verdict::Allowed => Granted {
-            answer: GrantAnswer::Granted(serial),
-            book: changed,
-        },
-        Verdict::Refused(refusal) => Granted {
-            answer: GrantAnswer::Refused(refusal),
-            book: book,
-        },
+impl Book {
+    // Whether some record, live or pending, conflicts with the way of the request in that colour.
+    fn colour_held(&self, way: Way, request: Request, colour: u16) -> bool
+        ensures { result ≡ conflict_in (records_of self.now) way request colour }
+    {
+        self.records()
+            .iter()
+            .any(|circuit| circuit.conflicts(way, request, colour))
+    }
+
+    // 12 or 13, if there is no place or no serial for one circuit more.
+    fn room_verdict(&self) -> Result<(), Refusal>
+        ensures { result ≡ room_verdict self.now.records self.now.grants }
+    {
+        refuse_if(512 <= self.records, Refusal::BookFull)?;
+        refuse_if(65535 <= self.grants, Refusal::SerialsUsedUp)
+    }
+
+    // The first of the grounds 4, 5, 9, 10, 26 and 11 to 13 that is there, 11 by comparing ends.
+    fn grant_verdict(&self, line: Line) -> Result<(), Refusal>
+        ensures { result ≡ verdict_by_ends self.now line.x line.y line.way line.colour line.crew }
+    {
+        line.verdict(self.n, self.w)?;
+        let held = self.colour_held(line.route(), line.request(), line.colour);
+        refuse_if(held, Refusal::ColourHeld)?;
+        self.room_verdict()
+    }
+
+    // The serial of a new circuit, or a refusal that leaves the book as it is.
+    pub fn grant(&mut self, line: Line) -> Result<u16, Refusal>
+        ensures promise { GrantPromise self.old line.x line.y line.way line.colour line.crew (record { answer = result; book = self.new }) }
+        ensures kept { IfErr result (λ _. self.new ≡ self.old) }
+    {
+        self.grant_verdict(line)?;
+        let serial = self.grants + 1;
+        let place = usize::from(self.records);
+        self.places[place] = line.circuit(serial);
+        self.records += 1;
+        self.grants = serial;
+        Ok(serial)
     }
 }

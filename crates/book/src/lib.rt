@@ -11,11 +11,7 @@ pub mod orders;
 pub mod removals;
 pub mod revisions;
 
-pub use books::{Book, open};
-pub use circuits::Circuit;
-pub use confirmations::confirm;
-pub use grants::grant;
-pub use holders::holder;
-pub use orders::show;
-pub use removals::remove;
-pub use revisions::revision;
+pub use books::Book;
+pub use circuits::{Circuit, RecordState};
+pub use grants::Line;
+pub use holders::Holder;

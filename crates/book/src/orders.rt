@@ -1,118 +1,94 @@
 // Looking an order up and showing it.
-ghost use Rattle.std.specs.Prelude.{◌≡◌};
+ghost use Rattle.std.specs.Prelude.{◌≡◌, cond};
 ghost use Rattle.book.specs.Books.{records_of};
-ghost use Rattle.book.specs.Orders.{never_given, lookup_in, lookup, live_found, missing, shown, own_shown, shown_to};
+ghost use Rattle.book.specs.Orders.{never_given, lookup_in, lookup, live_found, shown, own_shown, shown_to};
 
-use super::books::{Book, record_count};
-use super::circuits::{Circuit, is_live};
-use super::crews::{crew_verdict, is_own};
+use super::books::Book;
+use super::circuits::Circuit;
+use super::crews::crew_verdict;
 use ring::Refusal;
-use ring::flags::either;
-use ring::refusals::Verdict;
 
-// The record of an order, with its place.
-#[derive(Clone, Copy)]
-pub enum Lookup {
-    Found(usize, Circuit),
-    Missing,
-}
+impl Book {
+    // Whether the serial is 0 or was never given.
+    fn never_gave(&self, serial: u16) -> bool
+        ensures { result ≡ never_given self.now.grants serial }
+    {
+        serial == 0 || self.grants < serial
+    }
 
-#[derive(Clone, Copy)]
-pub enum ShowAnswer {
-    Shown(Circuit),
-    Refused(Refusal),
-}
-
-// Whether the serial is 0 or was never given.
-pub fn never_given(grants: u16, serial: u16) -> bool
-    ensures { result ≡ never_given grants serial }
-{
-    either(serial == 0, grants < serial)
-}
-
-// The first record of that serial.
-fn find(book: Book, serial: u16) -> Lookup
-    ensures { result ≡ lookup_in 0 (records_of book) serial }
-{
-    let records = record_count(book);
-    let mut i: usize = 0;
-    while i < records {
-        let circuit = book.places[i];
-        if circuit.serial == serial {
-            return Lookup::Found(i, circuit);
+    // 14 for a serial that was never given, the other ground for one that was.
+    pub fn unknown_or(&self, serial: u16, given: Refusal) -> Refusal
+        ensures { result ≡ cond (never_given self.now.grants serial) Refusal.SerialNeverGiven given }
+    {
+        if self.never_gave(serial) {
+            Refusal::SerialNeverGiven
+        } else {
+            given
         }
-        i += 1;
     }
-    Lookup::Missing
-}
 
-// The record of a serial, live or pending.
-pub fn look_up(book: Book, serial: u16) -> Lookup
-    ensures { result ≡ lookup book serial }
-{
-    if never_given(book.grants, serial) {
-        return Lookup::Missing;
+    // The first record of that serial, behind its place.
+    fn find(&self, serial: u16) -> Option<(usize, Circuit)>
+        ensures { result ≡ lookup_in 0 (records_of self.now) serial }
+    {
+        let place = self
+            .records()
+            .iter()
+            .position(|circuit| circuit.serial == serial)?;
+        Some((place, self.places[place]))
     }
-    find(book, serial)
-}
 
-// The record of a serial, if it is live.
-pub fn look_up_live(book: Book, serial: u16) -> Lookup
-    ensures { result ≡ live_found (lookup book serial) }
-{
-    let Lookup::Found(place, circuit) = look_up(book, serial) else {
-        return Lookup::Missing;
-    };
-    if is_live(circuit) {
-        Lookup::Found(place, circuit)
-    } else {
-        Lookup::Missing
+    // The record of a serial, live or pending, behind its place.
+    pub fn look_up(&self, serial: u16) -> Option<(usize, Circuit)>
+        ensures { result ≡ lookup self.now serial }
+    {
+        if self.never_gave(serial) {
+            return None;
+        }
+        self.find(serial)
     }
-}
 
-// 14 or 15, for a serial that is not live.
-pub fn missing(book: Book, serial: u16) -> Refusal
-    ensures { result ≡ missing book serial }
-{
-    if never_given(book.grants, serial) {
-        return Refusal::SerialNeverGiven;
+    // The same, if it is live.
+    pub fn look_up_live(&self, serial: u16) -> Option<(usize, Circuit)>
+        ensures { result ≡ live_found (lookup self.now serial) }
+    {
+        self.look_up(serial)
+            .filter(|(_, circuit)| circuit.is_live())
     }
-    Refusal::SerialRemoved
-}
 
-// What the desk reads: the circuit of a live order, or refusal 14 or 15.
-fn show_all(book: Book, serial: u16) -> ShowAnswer
-    ensures { result ≡ shown book serial }
-{
-    let Lookup::Found(_, circuit) = look_up_live(book, serial) else {
-        return ShowAnswer::Refused(missing(book, serial));
-    };
-    ShowAnswer::Shown(circuit)
-}
+    // What the desk reads: the circuit of a live order, or refusal 14 or 15.
+    fn show_all(&self, serial: u16) -> Result<Circuit, Refusal>
+        ensures { result ≡ shown self.now serial }
+    {
+        let Some((_, circuit)) = self.look_up_live(serial) else {
+            return Err(self.unknown_or(serial, Refusal::SerialRemoved));
+        };
+        Ok(circuit)
+    }
 
-// What another crew reads: the circuit of a live order of its own, or refusal 14.
-fn show_own(book: Book, serial: u16, crew: u16) -> ShowAnswer
-    ensures { result ≡ own_shown crew book serial }
-{
-    let Lookup::Found(_, circuit) = look_up(book, serial) else {
-        return ShowAnswer::Refused(Refusal::SerialNeverGiven);
-    };
-    if is_own(crew, circuit) {
-        return ShowAnswer::Shown(circuit);
+    // What another crew reads: the circuit of a live order of its own, or refusal 14.
+    fn show_own(&self, serial: u16, crew: u16) -> Result<Circuit, Refusal>
+        ensures { result ≡ own_shown crew self.now serial }
+    {
+        let Some((_, circuit)) = self.look_up(serial) else {
+            return Err(Refusal::SerialNeverGiven);
+        };
+        if circuit.is_own(crew) {
+            Ok(circuit)
+        } else {
+            Err(Refusal::SerialNeverGiven)
+        }
     }
-    ShowAnswer::Refused(Refusal::SerialNeverGiven)
-}
 
-// The circuit of an order that the crew may read, or refusal 26, 14 or 15.
-pub fn show(book: Book, serial: u16, crew: u16) -> ShowAnswer
-    ensures { result ≡ shown_to crew book serial }
-{
-    let verdict = crew_verdict(crew);
-    if let Verdict::Refused(refusal) = verdict {
-        return ShowAnswer::Refused(refusal);
+    // The circuit of an order that the crew may read, or refusal 26, 14 or 15.
+    pub fn show(&self, serial: u16, crew: u16) -> Result<Circuit, Refusal>
+        ensures { result ≡ shown_to crew self.now serial }
+    {
+        crew_verdict(crew)?;
+        if crew == 0 {
+            self.show_all(serial)
+        } else {
+            self.show_own(serial, crew)
+        }
     }
-    if crew == 0 {
-        return show_all(book, serial);
-    }
-    show_own(book, serial, crew)
 }

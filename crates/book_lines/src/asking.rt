@@ -1,89 +1,56 @@
 // The lines of a bundle, as they are typed.
-ghost use Rattle.std.specs.Prelude.{◌≡◌, ◌≤◌, length, drop};
-ghost use Rattle.bundles.specs.Internal.Bundles.{Bundled};
-ghost use Rattle.book_lines.specs.Lines.{behind_comma, bundle_of};
-ghost use Rattle.book_lines.specs.Internal.Asking.{AskedRead};
+ghost use Rattle.std.specs.Prelude.{◌≡◌};
+ghost use Rattle.book_lines.specs.Lines.{asked_of, behind_comma, bundle_of};
+ghost use Rattle.book_lines.specs.Internal.Asking.{asked_read, BundledIf};
 
-use super::numbers::{CrewedAt, crewed_at};
-use bundles::bundles::with_line;
-use bundles::{Bundle, Line};
-use texts::fields::{FieldAt, field};
+use super::numbers::crewed;
+use book::Line;
+use bundles::Bundle;
+use texts::fields::Reader;
 
-// A line of a bundle, and the position behind the byte that closes it.
-#[derive(Clone, Copy)]
-pub enum AskedAt {
-    Broken,
-    Asked(Line, usize),
+// The line that the byte closes.
+#[tactic(auto, unfolding(crate::specs::Lines::asked_of))]
+pub fn asked(reader: &mut Reader<'_>, close: u8) -> Option<Line>
+    ensures { asked_read result reader.new ≡ asked_of close reader.old }
+{
+    let x = reader.field(b' ')?;
+    let y = reader.field(b' ')?;
+    let way = reader.field(b' ')?;
+    let (colour, crew) = crewed(reader, close)?;
+    Some(Line {
+        x,
+        y,
+        way,
+        colour,
+        crew,
+    })
 }
 
-// The line at a position that the byte closes.
-pub fn asked_at(text: &[u8], at: usize, close: u8) -> AskedAt
-    requires { at ≤ length text.now }
-    ensures { AskedRead close text.now at result }
+// Passes the space behind a comma, if there is one.
+fn pass_space(reader: &mut Reader<'_>)
+    ensures { reader.new ≡ behind_comma reader.old }
 {
-    let first = field(text, at, b' ');
-    let FieldAt::Found(x, second) = first else {
-        return AskedAt::Broken;
-    };
-    let middle = field(text, second, b' ');
-    let FieldAt::Found(y, third) = middle else {
-        return AskedAt::Broken;
-    };
-    let choice = field(text, third, b' ');
-    let FieldAt::Found(way, fourth) = choice else {
-        return AskedAt::Broken;
-    };
-    let last = crewed_at(text, fourth, close);
-    let CrewedAt::Found(colour, crew, next) = last else {
-        return AskedAt::Broken;
-    };
-    let line = Line {
-        x: x,
-        y: y,
-        way: way,
-        colour: colour,
-        crew: crew,
-    };
-    AskedAt::Asked(line, next)
-}
-
-// The position behind a space, if there is one.
-fn behind_comma(text: &[u8], at: usize) -> usize
-    requires { at ≤ length text.now }
-    ensures within { result ≤ length text.now }
-    ensures same { drop result text.now ≡ behind_comma (drop at text.now) }
-{
-    if at < text.len() {
-        if text[at] == b' ' {
-            return at + 1;
-        }
+    if let Some(rest) = reader.rest().strip_prefix(b" ") {
+        *reader = Reader::new(rest);
     }
-    at
 }
 
-// The lines from a position on, or none if the text is not of their form.
-pub fn bundle_at(text: &[u8], at: usize) -> Bundle
-    requires { at ≤ length text.now }
-    ensures { Bundled result (bundle_of (drop at text.now)) }
+// The lines of a text, if it is of their form.
+pub fn lines_of(text: &[u8]) -> Option<Bundle>
+    ensures { BundledIf result (bundle_of text.now) }
 {
     let mut bundle = Bundle::blank();
-    let mut place = at;
-    let mut left: usize = 128;
-    while 0 < left {
-        let end = asked_at(text, place, b'\n');
-        if let AskedAt::Asked(line, next) = end {
-            if next < text.len() {
-                return Bundle::blank();
-            }
-            return with_line(bundle, line);
+    let mut reader = Reader::new(text);
+    for _ in 0..128_usize {
+        let rest = reader.rest();
+        if let Some(line) = asked(&mut reader, b'\n') {
+            bundle.push(line);
+            return reader.is_at_end().then_some(bundle);
         }
-        let more = asked_at(text, place, b',');
-        let AskedAt::Asked(line, next) = more else {
-            return Bundle::blank();
-        };
-        bundle = with_line(bundle, line);
-        place = behind_comma(text, next);
-        left -= 1;
+        reader = Reader::new(rest);
+        let line = asked(&mut reader, b',')?;
+        bundle.push(line);
+        pass_space(&mut reader);
     }
-    Bundle::blank()
+    None
 }

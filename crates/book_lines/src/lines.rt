@@ -1,20 +1,20 @@
 // What a line says: a command with its numbers.
-ghost use Rattle.std.specs.Prelude.{◌≡◌, ◌≤◌, length, take, drop};
-ghost use Rattle.book_lines.specs.Lines.{starts, open_of, grant_of, preview_of, remove_of, confirm_of, show_of, holder_of};
+ghost use Rattle.std.specs.Prelude.{◌≡◌, ◌≤◌, length, take};
+ghost use Rattle.book_lines.specs.Lines.{open_of, grant_of, preview_of, remove_of, confirm_of, show_of, holder_of};
 ghost use Rattle.bundles.specs.Internal.Bundles.{Bundled};
 ghost use Rattle.book_lines.specs.Lines.{lines_in, command_with_numbers, command_in, finished, heard, command_of};
 
-use super::asking::{AskedAt, asked_at, bundle_at};
-use super::numbers::{Pair, Single, last_at, pair_at, single_at};
+use super::asking::{asked, lines_of};
+use super::numbers::{last, pair_in, single_in};
 use super::spaces::squeeze;
+use book::Line;
 use bundles::Bundle;
-use ring::buffers::same_bytes;
-use texts::fields::{FieldAt, field};
+use texts::fields::Reader;
 
 #[derive(Clone, Copy)]
 pub enum Command {
     Open(u16, u16),
-    Grant(u16, u16, u16, u16, u16),
+    Grant(Line),
     Preview,
     Remove(u16),
     Confirm(u16),
@@ -28,7 +28,7 @@ pub enum Command {
 }
 
 // A line that asks nothing of the book.
-#[derive(Clone, Copy)]
+#[derive(Clone, Copy, Debug, PartialEq, Eq)]
 pub enum Aside {
     Help,
     Nothing,
@@ -37,215 +37,167 @@ pub enum Aside {
     TooLong,
 }
 
-// The command of a line, and how many bytes the line has with its spaces squeezed.
+// The command of a line, and the line with its spaces squeezed.
 #[derive(Clone, Copy)]
-pub struct Heard {
+pub struct Heard<'a> {
     pub command: Command,
-    pub length: usize,
+    pub text: &'a [u8],
 }
 
-// Whether the text begins with the word.
-fn starts(word: &[u8], text: &[u8]) -> bool
-    ensures { result ≡ starts word.now text.now }
+#[tactic(auto, unfolding(crate::specs::Lines::open_of))]
+fn open_in(text: &[u8]) -> Option<Command>
+    ensures { result ≡ open_of text.now }
 {
-    if text.len() < word.len() {
-        return false;
-    }
-    let mut i: usize = 0;
-    while i < word.len() {
-        if word[i] != text[i] {
-            return false;
-        }
-        i += 1;
-    }
-    true
+    let (n, w) = pair_in(text)?;
+    Some(Command::Open(n, w))
 }
 
-fn open_at(text: &[u8], at: usize) -> Command
-    requires { at ≤ length text.now }
-    ensures { result ≡ open_of (drop at text.now) }
+#[tactic(auto, using(crate::proofs::NumberLaws::ended_then), unfolding(crate::specs::Lines::grant_of))]
+fn grant_in(text: &[u8]) -> Option<Command>
+    ensures { result ≡ grant_of text.now }
 {
-    let pair = pair_at(text, at);
-    let Pair::Two(n, w) = pair else {
-        return Command::Aside(Aside::Unreadable);
-    };
-    Command::Open(n, w)
-}
-
-fn grant_at(text: &[u8], at: usize) -> Command
-    requires { at ≤ length text.now }
-    ensures { result ≡ grant_of (drop at text.now) }
-{
-    let asked = asked_at(text, at, b'\n');
-    let AskedAt::Asked(line, next) = asked else {
-        return Command::Aside(Aside::Unreadable);
-    };
-    if next < text.len() {
-        return Command::Aside(Aside::Unreadable);
-    }
-    Command::Grant(line.x, line.y, line.way, line.colour, line.crew)
+    let mut reader = Reader::new(text);
+    let line = asked(&mut reader, b'\n')?;
+    reader.is_at_end().then_some(Command::Grant(line))
 }
 
 // The command alone; its lines are read again for the answer.
-fn preview_at(text: &[u8], at: usize) -> Command
-    requires { at ≤ length text.now }
-    ensures { result ≡ preview_of (drop at text.now) }
+#[tactic(auto, unfolding(crate::specs::Lines::preview_of))]
+fn preview_in(text: &[u8]) -> Option<Command>
+    ensures { result ≡ preview_of text.now }
 {
-    let bundle = bundle_at(text, at);
-    if bundle.count == 0 {
-        return Command::Aside(Aside::Unreadable);
-    }
-    Command::Preview
+    lines_of(text)?;
+    Some(Command::Preview)
 }
 
-fn remove_at(text: &[u8], at: usize) -> Command
-    requires { at ≤ length text.now }
-    ensures { result ≡ remove_of (drop at text.now) }
+#[tactic(auto, unfolding(crate::specs::Lines::remove_of))]
+fn remove_in(text: &[u8]) -> Option<Command>
+    ensures { result ≡ remove_of text.now }
 {
-    let single = single_at(text, at);
-    let Single::One(serial) = single else {
-        return Command::Aside(Aside::Unreadable);
-    };
-    Command::Remove(serial)
+    let serial = single_in(text)?;
+    Some(Command::Remove(serial))
 }
 
-fn confirm_at(text: &[u8], at: usize) -> Command
-    requires { at ≤ length text.now }
-    ensures { result ≡ confirm_of (drop at text.now) }
+#[tactic(auto, unfolding(crate::specs::Lines::confirm_of))]
+fn confirm_in(text: &[u8]) -> Option<Command>
+    ensures { result ≡ confirm_of text.now }
 {
-    let single = single_at(text, at);
-    let Single::One(serial) = single else {
-        return Command::Aside(Aside::Unreadable);
-    };
-    Command::Confirm(serial)
+    let serial = single_in(text)?;
+    Some(Command::Confirm(serial))
 }
 
-fn show_at(text: &[u8], at: usize) -> Command
-    requires { at ≤ length text.now }
-    ensures { result ≡ show_of (drop at text.now) }
+#[tactic(auto, unfolding(crate::specs::Lines::show_of))]
+fn show_in(text: &[u8]) -> Option<Command>
+    ensures { result ≡ show_of text.now }
 {
-    let last = last_at(text, at);
-    let Pair::Two(serial, crew) = last else {
-        return Command::Aside(Aside::Unreadable);
-    };
-    Command::Show(serial, crew)
+    let mut reader = Reader::new(text);
+    let (serial, crew) = last(&mut reader)?;
+    Some(Command::Show(serial, crew))
 }
 
-fn holder_at(text: &[u8], at: usize) -> Command
-    requires { at ≤ length text.now }
-    ensures { result ≡ holder_of (drop at text.now) }
+#[tactic(auto, unfolding(crate::specs::Lines::holder_of))]
+fn holder_in(text: &[u8]) -> Option<Command>
+    ensures { result ≡ holder_of text.now }
 {
-    let first = field(text, at, b' ');
-    let FieldAt::Found(link, behind) = first else {
-        return Command::Aside(Aside::Unreadable);
-    };
-    let last = last_at(text, behind);
-    let Pair::Two(colour, crew) = last else {
-        return Command::Aside(Aside::Unreadable);
-    };
-    Command::Holder(link, colour, crew)
+    let mut reader = Reader::new(text);
+    let link = reader.field(b' ')?;
+    let (colour, crew) = last(&mut reader)?;
+    Some(Command::Holder(link, colour, crew))
 }
 
 // A command with numbers behind its word.
-fn numbers_in(text: &[u8]) -> Command
+#[tactic(auto, unfolding(crate::specs::Lines::command_with_numbers))]
+fn numbers_in(text: &[u8]) -> Option<Command>
     ensures { result ≡ command_with_numbers text.now }
 {
-    if starts(b"open ", text) {
-        return open_at(text, 5);
+    if let Some(rest) = text.strip_prefix(b"open ") {
+        return open_in(rest);
     }
-    if starts(b"grant ", text) {
-        return grant_at(text, 6);
+    if let Some(rest) = text.strip_prefix(b"grant ") {
+        return grant_in(rest);
     }
-    if starts(b"remove ", text) {
-        return remove_at(text, 7);
+    if let Some(rest) = text.strip_prefix(b"remove ") {
+        return remove_in(rest);
     }
-    if starts(b"confirm ", text) {
-        return confirm_at(text, 8);
+    if let Some(rest) = text.strip_prefix(b"confirm ") {
+        return confirm_in(rest);
     }
-    if starts(b"show ", text) {
-        return show_at(text, 5);
+    if let Some(rest) = text.strip_prefix(b"show ") {
+        return show_in(rest);
     }
-    if starts(b"holder ", text) {
-        return holder_at(text, 7);
+    if let Some(rest) = text.strip_prefix(b"holder ") {
+        return holder_in(rest);
     }
-    if starts(b"preview ", text) {
-        return preview_at(text, 8);
-    }
-    Command::Aside(Aside::Unreadable)
+    let rest = text.strip_prefix(b"preview ")?;
+    preview_in(rest)
 }
 
 // The command of a line whose spaces are squeezed.
+#[tactic(auto, unfolding(crate::specs::Lines::command_in))]
 fn command_in(text: &[u8]) -> Command
     ensures { result ≡ command_in text.now }
 {
-    if same_bytes(text, b"\n") {
+    if text == b"\n".as_slice() {
         return Command::Aside(Aside::Nothing);
     }
-    if same_bytes(text, b"count\n") {
+    if text == b"count\n".as_slice() {
         return Command::Count;
     }
-    if same_bytes(text, b"revision\n") {
+    if text == b"revision\n".as_slice() {
         return Command::Revision;
     }
-    if same_bytes(text, b"list\n") {
+    if text == b"list\n".as_slice() {
         return Command::List;
     }
-    if same_bytes(text, b"pending\n") {
+    if text == b"pending\n".as_slice() {
         return Command::Pending;
     }
-    if same_bytes(text, b"help\n") {
+    if text == b"help\n".as_slice() {
         return Command::Aside(Aside::Help);
     }
-    if same_bytes(text, b"preview\n") {
+    if text == b"preview\n".as_slice() {
         return Command::Preview;
     }
-    numbers_in(text)
+    numbers_in(text).unwrap_or(Command::Aside(Aside::Unreadable))
 }
 
 // The lines that are tried by a line whose spaces are squeezed.
+#[tactic(auto, unfolding(crate::specs::Lines::lines_in))]
 pub fn bundle_in(text: &[u8]) -> Bundle
     ensures { Bundled result (lines_in text.now) }
 {
-    if starts(b"preview ", text) {
-        return bundle_at(text, 8);
-    }
-    Bundle::blank()
+    let Some(rest) = text.strip_prefix(b"preview ") else {
+        return Bundle::blank();
+    };
+    lines_of(rest).unwrap_or(Bundle::blank())
 }
 
 // Whether the line feed that ends a line is there.
+#[tactic(auto, unfolding(crate::specs::Lines::finished))]
 fn finished(line: &[u8]) -> bool
     ensures { result ≡ finished line.now }
 {
-    let size = line.len();
-    if size == 0 {
-        return false;
-    }
-    line[size - 1] == b'\n'
+    line.ends_with(b"\n")
 }
 
 // The command of a line. The line goes into the text with its spaces squeezed; one that is too long does not.
-pub fn read(line: &[u8], text: &mut [u8]) -> Heard
-    requires { length text.old ≡ 1024 }
-    ensures within { result.length ≤ length text.new }
-    ensures heard { take result.length text.new ≡ heard line.now }
+#[tactic(auto, unfolding(crate::specs::Lines::heard, crate::specs::Lines::command_of))]
+pub fn read<'a>(line: &[u8], text: &'a mut [u8; 1024]) -> Heard<'a>
+    ensures heard { result.text.now ≡ heard line.now }
     ensures command { result.command ≡ command_of line.now }
 {
     if text.len() < line.len() {
         return Heard {
             command: Command::Aside(Aside::TooLong),
-            length: 0,
+            text: &[],
         };
     }
     let size = squeeze(line, text);
-    if !finished(line) {
-        return Heard {
-            command: Command::Aside(Aside::Unfinished),
-            length: size,
-        };
-    }
-    let said = command_in(&text[..size]);
-    Heard {
-        command: said,
-        length: size,
-    }
+    let text = &text[..size];
+    let command = if finished(line) {
+        command_in(text)
+    } else {
+        Command::Aside(Aside::Unfinished)
+    };
+    Heard { command, text }
 }

@@ -1,92 +1,50 @@
 // The numbers of a line: one, two, or a last one with the crew that may stand behind it.
-ghost use Rattle.std.specs.Prelude.{◌≡◌, ◌≤◌, length, drop};
-ghost use Rattle.book_lines.specs.Lines.{single_of, pair_of, last_of};
-ghost use Rattle.book_lines.specs.Internal.Asking.{CrewedRead};
+ghost use Rattle.std.specs.Prelude.{◌≡◌};
+ghost use Rattle.book_lines.specs.Lines.{single_of, pair_of, crewed_of, last_of};
+ghost use Rattle.book_lines.specs.Internal.Asking.{crewed_read};
 
-use texts::fields::{FieldAt, LineAt, field, line};
+use texts::fields::Reader;
 
-// One number, and nothing behind it.
-#[derive(Clone, Copy)]
-pub enum Single {
-    Broken,
-    One(u16),
-}
-
-// Two numbers, and nothing behind them.
-#[derive(Clone, Copy)]
-pub enum Pair {
-    Broken,
-    Two(u16, u16),
-}
-
-// A number, its crew, and the position behind the byte that closes them.
-#[derive(Clone, Copy)]
-pub enum CrewedAt {
-    Missing,
-    Found(u16, u16, usize),
-}
-
-// The one number from a position on, closed by the line feed that ends the text.
-pub fn single_at(text: &[u8], at: usize) -> Single
-    requires { at ≤ length text.now }
-    ensures { result ≡ single_of (drop at text.now) }
+// The one number of a text, closed by the line feed that ends it.
+#[tactic(auto, using(crate::proofs::NumberLaws::ended_then), unfolding(crate::specs::Lines::single_of))]
+pub fn single_in(text: &[u8]) -> Option<u16>
+    ensures { result ≡ single_of text.now }
 {
-    let found = field(text, at, b'\n');
-    let FieldAt::Found(x, next) = found else {
-        return Single::Broken;
-    };
-    if next < text.len() {
-        return Single::Broken;
-    }
-    Single::One(x)
+    let mut reader = Reader::new(text);
+    let x = reader.field(b'\n')?;
+    reader.is_at_end().then_some(x)
 }
 
-// The two numbers from a position on.
-pub fn pair_at(text: &[u8], at: usize) -> Pair
-    requires { at ≤ length text.now }
-    ensures { result ≡ pair_of (drop at text.now) }
+// The two numbers of a text.
+#[tactic(auto, using(crate::proofs::NumberLaws::ended_then), unfolding(crate::specs::Lines::pair_of))]
+pub fn pair_in(text: &[u8]) -> Option<(u16, u16)>
+    ensures { result ≡ pair_of text.now }
 {
-    let found = line(text, at);
-    let LineAt::Ends(x, y, next) = found else {
-        return Pair::Broken;
-    };
-    if next < text.len() {
-        return Pair::Broken;
-    }
-    Pair::Two(x, y)
+    let mut reader = Reader::new(text);
+    let ends = reader.line()?;
+    reader.is_at_end().then_some(ends)
 }
 
-// The number at a position and its crew, which the byte closes. Without a crew it is the desk.
-pub fn crewed_at(text: &[u8], at: usize, close: u8) -> CrewedAt
-    requires { at ≤ length text.now }
-    ensures { CrewedRead close text.now at result }
+// A number and its crew, which the byte closes. Without a crew it is the desk.
+#[tactic(auto, unfolding(crate::specs::Lines::crewed_of))]
+pub fn crewed(reader: &mut Reader<'_>, close: u8) -> Option<(u16, u16)>
+    ensures { crewed_read result reader.new ≡ crewed_of close reader.old }
 {
-    let alone = field(text, at, close);
-    if let FieldAt::Found(x, next) = alone {
-        return CrewedAt::Found(x, 0, next);
+    let text = reader.rest();
+    if let Some(x) = reader.field(close) {
+        return Some((x, 0));
     }
-    let number = field(text, at, b' ');
-    let FieldAt::Found(x, behind) = number else {
-        return CrewedAt::Missing;
-    };
-    let last = field(text, behind, close);
-    let FieldAt::Found(crew, next) = last else {
-        return CrewedAt::Missing;
-    };
-    CrewedAt::Found(x, crew, next)
+    *reader = Reader::new(text);
+    let x = reader.field(b' ')?;
+    let crew = reader.field(close)?;
+    Some((x, crew))
 }
 
-// The number from a position on and its crew, closed by the line feed that ends the text.
-pub fn last_at(text: &[u8], at: usize) -> Pair
-    requires { at ≤ length text.now }
-    ensures { result ≡ last_of (drop at text.now) }
+// The last number and its crew, closed by the line feed that ends the text.
+#[tactic(auto, using(crate::proofs::NumberLaws::ended_then), unfolding(crate::specs::Lines::last_of))]
+pub fn last(reader: &mut Reader<'_>) -> Option<(u16, u16)>
+    ensures { result ≡ last_of reader.old }
 {
-    let found = crewed_at(text, at, b'\n');
-    let CrewedAt::Found(x, crew, next) = found else {
-        return Pair::Broken;
-    };
-    if next < text.len() {
-        return Pair::Broken;
-    }
-    Pair::Two(x, crew)
+    let both = crewed(reader, b'\n')?;
+    reader.is_at_end().then_some(both)
 }

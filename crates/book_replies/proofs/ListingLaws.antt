@@ -1,116 +1,99 @@
--- The lines of those records that are listed, one behind the other, whatever a line says.
+-- The lines of some of the records, one behind the other, whatever a line says.
 use Prim.Native.Nat.{ℕ, suc, ◌+◌, ◌*◌, ◌≤◌, ◌<◌}
 use mathlib.Core.Path.{◌≡◌, refl, sym, ◌∙◌, ap}
 use mathlib.Core.Bool.{Bool, true, false, cond, not}
-use mathlib.Core.List.{List, [], ◌∷◌, ◌++◌, append_assoc, append-nil}
+use denote.Enum.Bare.{sameb}
+use mathlib.Core.List.{List, [], ◌∷◌}
 use native.Mathlib.Omega.{arith}
 use native.Mathlib.Nat.{suc-mul, mul-le-mul_right}
 use native.Mathlib.Numerals.{add-one}
-use lib.ListN.{length, get_or, take}
-use lib.Seq.{take-suc, take_all}
-use Rattle.ring.proofs.Cases.{is, yes, no, impossible}
-use Rattle.texts.specs.Internal.Writing.{Wrote}
-use Rattle.texts.proofs.WritingLaws.{wrote_then, wrote_none, wrote_length}
+use lib.ListN.{length, get_or, drop, drop_of_length-le}
+use lib.Seq.{drop-cons}
+use Rattle.std.specs.Prelude.{filter}
+use Rattle.texts.specs.declared.writing.Writer.{Writer}
+use Rattle.texts.specs.Internal.Writing.{Room, Wrote}
+use Rattle.texts.proofs.WritingLaws.{wrote_then, wrote_none}
 use Rattle.book.specs.declared.circuits.Circuit.{Circuit}
-use Rattle.book.specs.declared.books.Book.{Book}
-use Rattle.book.specs.Circuits.{vacant, is_live}
-use Rattle.book.specs.Books.{records_of, live_in, pending_in}
-use Rattle.book.proofs.Places.{record_at}
+use Rattle.book.specs.declared.circuits.RecordState.{RecordState}
+use Rattle.book.specs.declared.circuits.RecordState.TheVariants.{Live, Pending}
+use Rattle.book.specs.contracts.circuits.RecordState.{the_type}
+use Rattle.book.specs.Circuits.{vacant, live_state, is_live}
+use Rattle.book.specs.Books.{pending_in}
 use Rattle.book_replies.specs.Replies.{lines_with}
-use Rattle.book_replies.specs.Internal.Listing.{is_listed, listed}
+use Rattle.book_replies.specs.Internal.Listing.{is_listed}
 
--- which are listed of two lists
-listed_append : (live : Bool) (xs ys : List Circuit) → listed live (xs ++ ys) ≡ listed live xs ++ listed live ys
-listed_append true [] ys = refl
-listed_append true (x ∷ xs) ys = go (is_live x) (listed_append true xs ys)
+-- a record is in a state, as the test of the code has it
+pub in_state : (state : RecordState) (c : Circuit) {b : Bool} → b ≡ sameb the_type c.state state → is_listed state c ≡ b
+in_state Live c e = sym (e ∙ go c.state)
   where
-    go : (t : Bool) → live_in (xs ++ ys) ≡ live_in xs ++ live_in ys
-        → cond t (x ∷ live_in (xs ++ ys)) (live_in (xs ++ ys)) ≡ cond t (x ∷ live_in xs) (live_in xs) ++ live_in ys
-    go true e = ap (λ (l : List Circuit). x ∷ l) e
-    go false e = e
-listed_append false [] ys = refl
-listed_append false (x ∷ xs) ys = go (is_live x) (listed_append false xs ys)
+    go : (s : RecordState) → sameb the_type s Live ≡ live_state s
+    go Live = refl
+    go Pending = refl
+in_state Pending c e = sym (e ∙ go c.state)
   where
-    go : (t : Bool) → pending_in (xs ++ ys) ≡ pending_in xs ++ pending_in ys
-        → cond t (pending_in (xs ++ ys)) (x ∷ pending_in (xs ++ ys)) ≡ cond t (pending_in xs) (x ∷ pending_in xs) ++ pending_in ys
-    go true e = e
-    go false e = ap (λ (l : List Circuit). x ∷ l) e
+    go : (s : RecordState) → sameb the_type s Pending ≡ not (live_state s)
+    go Live = refl
+    go Pending = refl
 
-module _ (line : Circuit → List ℕ) where
-  lines_append : (xs ys : List Circuit) → lines_with line (xs ++ ys) ≡ lines_with line xs ++ lines_with line ys
-  lines_append [] ys = refl
-  lines_append (x ∷ xs) ys =
-      ap (λ (l : List ℕ). line x ++ l) (lines_append xs ys) ∙ sym (append_assoc (line x) (lines_with line xs) (lines_with line ys))
-
-  -- the line of one record, if it is listed
-  pub listed_so : (live : Bool) (c : Circuit) → is_listed live c ≡ true → line c ≡ lines_with line (listed live (c ∷ []))
-  listed_so true c e = sym (append-nil (line c)) ∙ ap (λ (t : Bool). lines_with line (cond t (c ∷ []) [])) (sym e)
-  listed_so false c e = go (is_live c) e
-    where
-      go : (t : Bool) → not t ≡ true → line c ≡ lines_with line (cond t [] (c ∷ []))
-      go true q = impossible (sym q)
-      go false q = sym (append-nil (line c))
-
-  pub listed_not : (live : Bool) (c : Circuit) → is_listed live c ≡ false → lines_with line (listed live (c ∷ [])) ≡ []
-  listed_not true c e = ap (λ (t : Bool). lines_with line (cond t (c ∷ []) [])) e
-  listed_not false c e = go (is_live c) e
-    where
-      go : (t : Bool) → not t ≡ false → lines_with line (cond t [] (c ∷ [])) ≡ []
-      go true q = refl
-      go false q = impossible q
-
-  lines_next : (live : Bool) (cs : List Circuit) (i : ℕ) → i < length cs
-      → lines_with line (listed live (take i cs)) ++ lines_with line (listed live (get_or cs i vacant ∷ []))
-      ≡ lines_with line (listed live (take (i + 1) cs))
-  lines_next live cs i h =
-      sym
-      (ap (λ (k : ℕ). lines_with line (listed live (take k cs))) (add-one i)
-      ∙ (ap (λ (l : List Circuit). lines_with line (listed live l)) (take-suc cs i vacant h)
-      ∙ (ap (lines_with line) (listed_append live (take i cs) (get_or cs i vacant ∷ []))
-      ∙ lines_append (listed live (take i cs)) (listed live (get_or cs i vacant ∷ [])))))
-
--- those of the first i records that are listed are written, each on at most so many bytes
-pub record Listed (line : Circuit → List ℕ) (most : ℕ) (live : Bool) (book : Book) (before : List ℕ) (i : ℕ) (after : List ℕ) (next : ℕ) :
+-- what the lines of the later records make of a writer makes the lines of all of the one before them; each line has at most so many bytes
+pub record Listed (line : Circuit → List ℕ) (most : ℕ) (p : Circuit → Bool) (cs : List Circuit) (before : Writer) (i : ℕ) (now : Writer) :
     Type 0 where
-  pub few : next ≤ i * most
-  pub wrote : Wrote before 0 (lines_with line (listed live (take i (records_of book)))) after next
+  pub few : now.at ≤ before.at + i * most
+  pub size : length now.out.now ≡ length before.out.now
+  pub same : (after : Writer) → Wrote now (lines_with line (filter p (drop i cs))) after → Wrote before (lines_with line (filter p cs)) after
 
-module _ (line : Circuit → List ℕ) (most : ℕ) (short : (c : Circuit) → length (line c) ≤ most) (live : Bool) (book : Book)
-    (before : List ℕ) where
-  pub listed_none : Listed line most live book before 0 before 0
-  listed_none = go live
-    where
-      go : (t : Bool) → Listed line most t book before 0 before 0
-      go true = record { few = omega arith; wrote = wrote_none before 0 (omega arith) }
-      go false = record { few = omega arith; wrote = wrote_none before 0 (omega arith) }
+module _ (line : Circuit → List ℕ) (most : ℕ) (p : Circuit → Bool) (cs : List Circuit) (before : Writer) where
+  pub listed_none : Listed line most p cs before 0 before
+  listed_none = record { few = omega arith; size = refl; same = λ after w. w }
 
-  line_short : (c : Circuit) → length (lines_with line (listed live (c ∷ []))) ≤ most
-  line_short c = elim (is (is_listed live c)) [
-    | yes e ↦ rw (← listed_so line live c e) (short c)
-    | no e ↦ rw (listed_not line live c e) (omega arith)
-  ]
-
-  module _ (i : ℕ) {after : List ℕ} {next : ℕ} (l : Listed line most live book before i after next) where
-    pub listed_room : i < 512 → 512 * most ≤ length before → next + most ≤ length after
+  module _ (i : ℕ) {now : Writer} (l : Listed line most p cs before i now) where
+    pub listed_room : i < 512 → Room (512 * most) before → Room most now
     listed_room h k =
         let few = l.few in
-        let size = wrote_length l.wrote in
+        let size = l.size in
         let more = suc-mul i most in
         let all : suc i * most ≤ 512 * most = mul-le-mul_right most (omega arith) in
         omega arith
 
-    pub listed_next : i < length (records_of book) → {end : List ℕ} {to : ℕ}
-        → Wrote after next (lines_with line (listed live (get_or book.places i vacant ∷ []))) end to
-        → Listed line most live book before (i + 1) end to
-    listed_next h w =
+    next : i < length cs → drop i cs ≡ get_or cs i vacant ∷ drop (i + 1) cs
+    next h = rw (add-one, drop-cons cs i vacant)
+
+    -- a record that is not listed, and the line of one that is
+    pub listed_not : i < length cs → p (get_or cs i vacant) ≡ false → Listed line most p cs before (i + 1) now
+    listed_not h e =
         let few = l.few in
-        let one = line_short (get_or book.places i vacant) in
-        let follows = w.follows in
         let more = suc-mul i most in
         record {
           few = rw add-one (omega arith);
-          wrote = rw (← lines_next line live (records_of book) i h, ← record_at book i h) (wrote_then l.wrote w);
+          size = l.size;
+          same = λ after w. l.same after (rw (next h, e) w);
         }
 
-    pub listed_all : length (records_of book) ≤ i → Wrote before 0 (lines_with line (listed live (records_of book))) after next
-    listed_all h = rw (← take_all i (records_of book) h) l.wrote
+    pub listed_so : i < length cs → p (get_or cs i vacant) ≡ true → length (line (get_or cs i vacant)) ≤ most → {to : Writer}
+        → Wrote now (line (get_or cs i vacant)) to → Listed line most p cs before (i + 1) to
+    listed_so h e short {to} v =
+        let few = l.few in
+        let more = suc-mul i most in
+        let follows = v.follows in
+        record {
+          few = rw add-one (omega arith);
+          size = v.kept ∙ l.size;
+          same = λ after w. l.same after (rw (next h, e) (wrote_then v w));
+        }
+
+    pub listed_all : length cs ≤ i → i ≤ 512 → Room (512 * most) before → Wrote before (lines_with line (filter p cs)) now
+    listed_all h most_i room =
+        let few = l.few in
+        let size = l.size in
+        let all : i * most ≤ 512 * most = mul-le-mul_right most most_i in
+        l.same now (rw (drop_of_length-le cs h) (wrote_none now (omega arith)))
+
+-- the pending ones are those in that state
+pub pending_is : (cs : List Circuit) → pending_in cs ≡ filter (is_listed Pending) cs
+pending_is [] = refl
+pending_is (c ∷ cs) = go (is_live c) (pending_is cs)
+  where
+    go : (t : Bool) → pending_in cs ≡ filter (is_listed Pending) cs
+        → cond t (pending_in cs) (c ∷ pending_in cs) ≡ cond (not t) (c ∷ filter (is_listed Pending) cs) (filter (is_listed Pending) cs)
+    go true e = e
+    go false e = ap (λ (l : List Circuit). c ∷ l) e

@@ -1,6 +1,5 @@
 -- The text that answers a command.
-use Rattle.std.specs.Prelude.{ℕ, ◌-◌, min, List, [], ◌∷◌, ◌++◌, length, take}
-use Rattle.ring.specs.declared.ways.Way.{Way}
+use Rattle.std.specs.Prelude.{ℕ, ◌-◌, min, List, [], ◌∷◌, ◌++◌, length, take, Option, Some, None, Result, Ok, Err}
 use Rattle.ring.specs.declared.refusals.Refusal.{Refusal}
 use Rattle.ring.specs.Refusals.{number_of}
 use Rattle.texts.specs.Bytes.{bytes}
@@ -10,11 +9,10 @@ use Rattle.texts.specs.Layout.{labelled, way_ending}
 use Rattle.texts.specs.Grounds.{ground_of}
 use Rattle.book.specs.declared.circuits.Circuit.{Circuit}
 use Rattle.book.specs.declared.books.Book.{Book}
-use Rattle.bundles.specs.declared.previews.PreviewAnswer.{PreviewAnswer}
-use Rattle.bundles.specs.declared.previews.PreviewAnswer.TheVariants as preview
+use Rattle.book.specs.declared.holders.Holder.{Holder}
+use Rattle.book.specs.declared.holders.Holder.TheVariants as holder
 use Rattle.bundles.specs.declared.previews.Previewed.{Previewed}
 use Rattle.book.specs.Books.{live_of, pending_of}
-use Rattle.book.specs.Revisions.{revision}
 use Rattle.bundles.specs.Previews.{serials_of, previewed_all}
 use Rattle.book_lines.specs.declared.lines.Aside.{Aside}
 use Rattle.book_lines.specs.declared.lines.Aside.TheVariants as aside
@@ -35,12 +33,12 @@ unfoldable pub revision_text : ℕ → List ℕ
 revision_text n = bytes "revision " ++ (long_decimal n ++ (line_feed ∷ []))
 
 -- the ends of a circuit behind a word, then `P` and its colour, or `S` for the seam way
-unfoldable pub circuit_text : List ℕ → ℕ → ℕ → Way → ℕ → List ℕ
-circuit_text word a b way colour = labelled word a ++ (labelled (bytes " ") b ++ (way_ending way colour ++ (line_feed ∷ [])))
+unfoldable pub circuit_text : List ℕ → Circuit → List ℕ
+circuit_text word c = labelled word c.a ++ (labelled (bytes " ") c.b ++ (way_ending c.way c.colour ++ (line_feed ∷ [])))
 
 -- `order SERIAL A B P COLOUR`
 unfoldable pub order_text : Circuit → List ℕ
-order_text c = labelled (bytes "order ") c.serial ++ circuit_text (bytes " ") c.a c.b c.way c.colour
+order_text c = labelled (bytes "order ") c.serial ++ circuit_text (bytes " ") c
 
 -- lines of circuits, one behind the other, each as `line` has it
 abbrev pub lines_with : (Circuit → List ℕ) → List Circuit → List ℕ
@@ -59,6 +57,12 @@ orders_text b = lines_of (live_of b)
 unfoldable pub pending_text : Book → List ℕ
 pending_text b = lines_of (pending_of b)
 
+-- "the serial of the order", that the colour is held, or that it is free
+abbrev pub holder_text : Holder → List ℕ
+holder_text holder.Free = bytes "free\n"
+holder_text holder.Held = bytes "held\n"
+holder_text (holder.HeldBy serial) = one_number (bytes "held ") serial
+
 -- `refused NUMBER` and the ground
 unfoldable pub refused_text : Refusal → List ℕ
 refused_text r = labelled (bytes "refused ") (number_of r) ++ ((space ∷ []) ++ ground_of r)
@@ -73,15 +77,19 @@ abbrev pub would_grant : List ℕ → List ℕ
 would_grant [] = bytes "would grant none"
 would_grant (serial ∷ serials) = bytes "would grant" ++ serials_text (serial ∷ serials)
 
--- the same with the line that would be turned down behind it, and its refusal; or the refusal of the whole
-abbrev pub preview_line : PreviewAnswer → List ℕ → List ℕ
-preview_line preview.AllGranted serials = would_grant serials ++ (line_feed ∷ [])
-preview_line (preview.Stopped i r) serials = would_grant serials ++ (labelled (bytes ", line ") i ++ ((space ∷ []) ++ refused_text r))
-preview_line (preview.Refused r) serials = refused_text r
+-- the line that would be turned down and its refusal, or the end of the line
+abbrev pub stop_text : Option (ℕ × Refusal) → List ℕ
+stop_text None = line_feed ∷ []
+stop_text (Some (i, r)) = labelled (bytes ", line ") i ++ ((space ∷ []) ++ refused_text r)
 
--- the line of a preview
-unfoldable pub preview_text : Previewed → List ℕ
-preview_text p = preview_line p.answer (serials_of p)
+-- what the lines would get, and the line that would be turned down behind it
+abbrev pub granted_text : Previewed → List ℕ
+granted_text p = would_grant (serials_of p) ++ stop_text p.stopped
+
+-- the line of a preview, or the refusal of the whole
+abbrev pub preview_text : Result Previewed Refusal → List ℕ
+preview_text (Ok p) = granted_text p
+preview_text (Err r) = refused_text r
 
 -- "what was not understood and the word `help`": the line without its line feed, of a long one the front
 unfoldable pub unreadable_text : List ℕ → List ℕ
@@ -112,22 +120,20 @@ aside_text text aside.Unreadable = unreadable_text text
 aside_text text aside.Unfinished = bytes "error the last line has no line feed and is not obeyed\n"
 aside_text text aside.TooLong = bytes "error a line of more than 1,024 bytes is not obeyed\n"
 
--- the text of each reply, to a line as it was heard, about this book
-abbrev pub reply_text : List ℕ → Book → Reply → List ℕ
-reply_text text b (reply.Opened n w) = two_numbers (bytes "opened ") n (bytes " ") w
-reply_text text b (reply.Granted serial) = one_number (bytes "granted ") serial
-reply_text text b reply.Previewed = preview_text (previewed_all b (lines_in text))
-reply_text text b (reply.Removed serial) = one_number (bytes "removed ") serial
-reply_text text b (reply.Confirmed serial) = one_number (bytes "confirmed ") serial
-reply_text text b (reply.Circuit x y way colour) = circuit_text (bytes "circuit ") x y way colour
-reply_text text b reply.Free = bytes "free\n"
-reply_text text b reply.Held = bytes "held\n"
-reply_text text b (reply.HeldBy serial) = one_number (bytes "held ") serial
-reply_text text b (reply.Count live grants) = two_numbers (bytes "live ") live (bytes " grants ") grants
-reply_text text b reply.Revision = revision_text (revision b)
-reply_text text b reply.Orders = orders_text b
-reply_text text b reply.PendingOrders = pending_text b
-reply_text text b (reply.Refused r) = refused_text r
-reply_text text b reply.BookThere = bytes "error there is a book in the file already\n"
-reply_text text b reply.NoBook = bytes "error there is no book yet (open N W begins one)\n"
-reply_text text b (reply.Aside a) = aside_text text a
+-- the text of each reply, to a line as it was heard
+abbrev pub reply_text : List ℕ → Reply → List ℕ
+reply_text text (reply.Opened n w) = two_numbers (bytes "opened ") n (bytes " ") w
+reply_text text (reply.Granted serial) = one_number (bytes "granted ") serial
+reply_text text (reply.Previewed b) = preview_text (previewed_all b (lines_in text))
+reply_text text (reply.Removed serial) = one_number (bytes "removed ") serial
+reply_text text (reply.Confirmed serial) = one_number (bytes "confirmed ") serial
+reply_text text (reply.Circuit c) = circuit_text (bytes "circuit ") c
+reply_text text (reply.Holder h) = holder_text h
+reply_text text (reply.Count live grants) = two_numbers (bytes "live ") live (bytes " grants ") grants
+reply_text text (reply.Revision n) = revision_text n
+reply_text text (reply.Orders b) = orders_text b
+reply_text text (reply.PendingOrders b) = pending_text b
+reply_text text (reply.Refused r) = refused_text r
+reply_text text reply.BookThere = bytes "error there is a book in the file already\n"
+reply_text text reply.NoBook = bytes "error there is no book yet (open N W begins one)\n"
+reply_text text (reply.Aside a) = aside_text text a

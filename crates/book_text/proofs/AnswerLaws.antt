@@ -1,25 +1,13 @@
--- What each command answers, from what the book and the stored form answer.
+-- What the answers say of books.
 use Prim.Native.Nat.{ℕ}
-use mathlib.Core.Path.{◌≡◌, refl, sym, ◌∙◌, ap}
-use mathlib.Core.Bool.{Bool, true, false}
-use mathlib.Core.List.{List}
+use mathlib.Core.Path.{◌≡◌, refl, sym, ◌∙◌, ap, subst}
+use mathlib.Core.Bool.{true, false}
+use Rattle.std.specs.Prelude.{Some, None, Result, Ok, Err, ⊤, unwrap_or}
 use Rattle.ring.specs.declared.refusals.Refusal.{Refusal}
-use Rattle.ring.specs.Admission.{ring_verdict}
+use Rattle.ring.proofs.Cases.{impossible}
 use Rattle.book.specs.declared.books.Book.{Book}
-use Rattle.book.specs.declared.books.Opened.{Opened}
-use Rattle.book.specs.declared.books.OpenAnswer.{OpenAnswer}
-use Rattle.book.specs.declared.books.OpenAnswer.TheVariants as opening
-use Rattle.book.specs.declared.grants.Granted.{Granted}
-use Rattle.book.specs.declared.grants.GrantAnswer.{GrantAnswer}
-use Rattle.book.specs.declared.grants.GrantAnswer.TheVariants as grant
-use Rattle.book.specs.declared.removals.Removed.{Removed}
-use Rattle.book.specs.declared.removals.RemoveAnswer.{RemoveAnswer}
-use Rattle.book.specs.declared.removals.RemoveAnswer.TheVariants as remove
-use Rattle.book.specs.declared.confirmations.Confirmed.{Confirmed}
-use Rattle.book.specs.declared.confirmations.ConfirmAnswer.{ConfirmAnswer}
-use Rattle.book.specs.declared.confirmations.ConfirmAnswer.TheVariants as confirm
-use Rattle.book.specs.declared.orders.ShowAnswer.{ShowAnswer}
-use Rattle.book.specs.declared.holders.HolderAnswer.{HolderAnswer}
+use Rattle.book.specs.declared.circuits.Circuit.{Circuit}
+use Rattle.book.specs.declared.holders.Holder.{Holder}
 use Rattle.book.specs.Books.{Valid, opened}
 use Rattle.book.specs.Grants.{granted}
 use Rattle.book.specs.Removals.{removed}
@@ -27,151 +15,128 @@ use Rattle.book.specs.Confirmations.{confirmed}
 use Rattle.book.specs.Orders.{shown_to}
 use Rattle.book.specs.Holders.{held_for}
 use Rattle.book.proofs.Validity.{keeps_valid}
-use Rattle.stored.specs.declared.loads.Loaded.{Loaded}
-use Rattle.stored.specs.declared.loads.LoadAnswer.{LoadAnswer}
-use Rattle.stored.specs.declared.loads.LoadAnswer.TheVariants as load
 use Rattle.stored.specs.Loading.{loaded_either}
 use Rattle.stored.proofs.EitherForm.{either_valid}
-use Rattle.ring.proofs.Cases.{impossible}
 use Rattle.book_lines.specs.declared.lines.Command.{Command}
 use Rattle.book_lines.specs.declared.lines.Command.TheVariants as command
-use Rattle.book_text.specs.declared.answers.State.{State}
-use Rattle.book_text.specs.declared.answers.State.TheVariants.{Absent, Broken, Sound}
-use Rattle.book_text.specs.declared.answers.Contents.{Contents}
 use Rattle.book_replies.specs.declared.replies.Reply.{Reply}
 use Rattle.book_replies.specs.declared.replies.Reply.TheVariants as reply
 use Rattle.book_text.specs.declared.answers.Answered.{Answered}
-use Rattle.book_text.specs.Answers.{found_by, contents_in, ValidContents, opening_by, granting_by, removing_by, confirming_by}
-use Rattle.book_text.specs.Answers.{showing_by, holding_by, opening_answer, grant_answer, remove_answer, confirm_answer, show_reply}
-use Rattle.book_text.specs.Answers.{holder_reply, turned_down, answered_none, answered_book, answered_in, answered}
-
--- what a file holds, from what the loads answer
-pub find_none : (present : Bool) (bytes : List ℕ) {o : Opened} → present ≡ false → o ≡ opened 0 0
-    → record { state = Absent; book = o.book } ≡ contents_in present bytes
-unfolding opened ring_verdict
-find_none present bytes e q = rw (e, q) refl
-
-pub find_some : (present : Bool) (bytes : List ℕ) {l : Loaded} {a : LoadAnswer} → present ≡ true → l ≡ loaded_either bytes → l.answer ≡ a
-    → found_by a l.book ≡ contents_in present bytes
-find_some present bytes e q p = rw (e, ← q, p) refl
-
--- each command, from the book's own answer
-module _ (b : Book) where
-  pub open_told : (n w : ℕ) {o : Opened} {a : OpenAnswer} → o ≡ opened n w → o.answer ≡ a
-      → opening_by b n w a o.book ≡ opening_answer b n w
-  open_told n w q p = rw (← q, p) refl
-
-  pub grant_told : (x y way colour crew : ℕ) {g : Granted} {a : GrantAnswer} → g ≡ granted b x y way colour crew → g.answer ≡ a
-      → granting_by b a g.book ≡ grant_answer b x y way colour crew
-  grant_told x y way colour crew q p = rw (← q, p) refl
-
-  pub remove_told : (serial : ℕ) {d : Removed} {a : RemoveAnswer} → d ≡ removed b serial → d.answer ≡ a
-      → removing_by b serial a d.book ≡ remove_answer b serial
-  remove_told serial q p = rw (← q, p) refl
-
-  pub confirm_told : (serial : ℕ) {d : Confirmed} {a : ConfirmAnswer} → d ≡ confirmed b serial → d.answer ≡ a
-      → confirming_by b serial a d.book ≡ confirm_answer b serial
-  confirm_told serial q p = rw (← q, p) refl
-
-  pub show_told : (serial crew : ℕ) {a z : ShowAnswer} → a ≡ shown_to crew b serial → a ≡ z → showing_by z ≡ show_reply b serial crew
-  show_told serial crew q p = ap showing_by (sym p ∙ q)
-
-  pub holder_told : (link colour crew : ℕ) {a z : HolderAnswer} → a ≡ held_for crew b link colour → a ≡ z
-      → holding_by z ≡ holder_reply b link colour crew
-  holder_told link colour crew q p = ap holding_by (sym p ∙ q)
-
--- the answer by the state of the file
-pub answer_in : (contents : Contents) (c : Command) {s : State} {r : Answered} → contents.state ≡ s → r ≡ answered_in s contents.book c
-    → r ≡ answered contents c
-unfolding answered
-answer_in contents c p q = rw p q
+use Rattle.book_text.specs.Answers.{Contents, found_by, ValidContents, opening_by, granting_by, removing_by, confirming_by, showing_by}
+use Rattle.book_text.specs.Answers.{holding_by, turned_down, answered_none, answered_book, answered}
+use Rattle.book_text.specs.Promises.{File, contents_of}
 
 -- what a file holds is valid
-pub valid_found : (present : Bool) (bytes : List ℕ) → ValidContents (contents_in present bytes)
-valid_found false bytes e = absurd_state e
+pub valid_found : (file : File) → ValidContents (contents_of file)
+valid_found None b e = let z : true ≡ false = cc in impossible z
+valid_found (Some bytes) b e = go (loaded_either bytes).answer refl e
   where
-    absurd_state : {A : Type 0} → Absent ≡ Sound → A
-    absurd_state q = let z : true ≡ false = cc in impossible z
-valid_found true bytes e = go (loaded_either bytes).answer refl e
+    go : (a : Result ⊤ Refusal) → (loaded_either bytes).answer ≡ a → found_by a (loaded_either bytes).book ≡ Ok (Some b) → Valid b
+    go (Ok loaded) q e = let z : (loaded_either bytes).book ≡ b = cc in subst Valid z (either_valid bytes q)
+    go (Err r) q e = let z : true ≡ false = cc in impossible z
+
+-- a preview is replied only about a valid book
+abbrev Sound : Reply → Type 0
+Sound (reply.Previewed b) = Valid b
+Sound _ = Unit
+
+turned_sound : (said : Reply) → Sound said → (c : Command) → Sound (turned_down said c).reply
+turned_sound said s (command.Open n w) = s
+turned_sound said s (command.Grant l) = s
+turned_sound said s command.Preview = s
+turned_sound said s (command.Remove serial) = s
+turned_sound said s (command.Confirm serial) = s
+turned_sound said s (command.Show serial crew) = s
+turned_sound said s (command.Holder link colour crew) = s
+turned_sound said s command.Count = s
+turned_sound said s command.Revision = s
+turned_sound said s command.List = s
+turned_sound said s command.Pending = s
+turned_sound said s (command.Aside a) = tt
+
+none_sound : (c : Command) → Sound (answered_none c).reply
+none_sound (command.Open n w) = go (opened n w).answer
   where
-    go : (a : LoadAnswer) → (loaded_either bytes).answer ≡ a → ValidContents (found_by a (loaded_either bytes).book)
-    go load.Loaded q e = either_valid bytes q
-    go (load.Refused r) q e = let z : true ≡ false = cc in impossible z
+    go : (a : Result ⊤ Refusal) → Sound (opening_by n w a (opened n w).book).reply
+    go (Ok opened) = tt
+    go (Err r) = tt
+none_sound (command.Grant l) = tt
+none_sound command.Preview = tt
+none_sound (command.Remove serial) = tt
+none_sound (command.Confirm serial) = tt
+none_sound (command.Show serial crew) = tt
+none_sound (command.Holder link colour crew) = tt
+none_sound command.Count = tt
+none_sound command.Revision = tt
+none_sound command.List = tt
+none_sound command.Pending = tt
+none_sound (command.Aside a) = tt
 
--- a preview is replied only about a book that was found
-abbrev previews : Reply → Bool
-previews reply.Previewed = true
-previews (reply.Opened n w) = false
-previews (reply.Granted serial) = false
-previews (reply.Removed serial) = false
-previews (reply.Confirmed serial) = false
-previews (reply.Circuit x y way colour) = false
-previews reply.Free = false
-previews reply.Held = false
-previews (reply.HeldBy serial) = false
-previews (reply.Count live grants) = false
-previews reply.Revision = false
-previews reply.Orders = false
-previews reply.PendingOrders = false
-previews (reply.Refused r) = false
-previews reply.BookThere = false
-previews reply.NoBook = false
-previews (reply.Aside a) = false
-
-other : {A : Type 0} {r : Reply} → previews r ≡ false → r ≡ reply.Previewed → A
-other e q = impossible (sym (ap previews q) ∙ e)
-
-none_previews : (b : Book) (c : Command) → previews (answered_none b c).reply ≡ false
-none_previews b (command.Open n w) = go (opened n w).answer (opened n w).book
+book_sound : (b : Book) → Valid b → (c : Command) → Sound (answered_book b c).reply
+book_sound b v (command.Open n w) = tt
+book_sound b v (command.Grant l) = go (granted b l.x l.y l.way l.colour l.crew).answer
   where
-    go : (a : OpenAnswer) (d : Book) → previews (opening_by b n w a d).reply ≡ false
-    go opening.Opened d = refl
-    go (opening.Refused r) d = refl
-none_previews b (command.Grant x y way colour crew) = refl
-none_previews b command.Preview = refl
-none_previews b (command.Remove serial) = refl
-none_previews b (command.Confirm serial) = refl
-none_previews b (command.Show serial crew) = refl
-none_previews b (command.Holder link colour crew) = refl
-none_previews b command.Count = refl
-none_previews b command.Revision = refl
-none_previews b command.List = refl
-none_previews b command.Pending = refl
-none_previews b (command.Aside a) = refl
+    go : (a : Result ℕ Refusal) → Sound (granting_by a (granted b l.x l.y l.way l.colour l.crew).book).reply
+    go (Ok serial) = tt
+    go (Err r) = tt
+book_sound b v command.Preview = v
+book_sound b v (command.Remove serial) = go (removed b serial).answer
+  where
+    go : (a : Result ⊤ Refusal) → Sound (removing_by serial a (removed b serial).book).reply
+    go (Ok removed) = tt
+    go (Err r) = tt
+book_sound b v (command.Confirm serial) = go (confirmed b serial).answer
+  where
+    go : (a : Result ⊤ Refusal) → Sound (confirming_by serial a (confirmed b serial).book).reply
+    go (Ok confirmed) = tt
+    go (Err r) = tt
+book_sound b v (command.Show serial crew) = go (shown_to crew b serial)
+  where
+    go : (a : Result Circuit Refusal) → Sound (showing_by a)
+    go (Ok c) = tt
+    go (Err r) = tt
+book_sound b v (command.Holder link colour crew) = go (held_for crew b link colour)
+  where
+    go : (a : Result Holder Refusal) → Sound (holding_by a)
+    go (Ok h) = tt
+    go (Err r) = tt
+book_sound b v command.Count = tt
+book_sound b v command.Revision = tt
+book_sound b v command.List = tt
+book_sound b v command.Pending = tt
+book_sound b v (command.Aside a) = tt
 
-broken_previews : (b : Book) (r : Refusal) (c : Command) → previews (turned_down b (reply.Refused r) c).reply ≡ false
-broken_previews b r (command.Open n w) = refl
-broken_previews b r (command.Grant x y way colour crew) = refl
-broken_previews b r command.Preview = refl
-broken_previews b r (command.Remove serial) = refl
-broken_previews b r (command.Confirm serial) = refl
-broken_previews b r (command.Show serial crew) = refl
-broken_previews b r (command.Holder link colour crew) = refl
-broken_previews b r command.Count = refl
-broken_previews b r command.Revision = refl
-broken_previews b r command.List = refl
-broken_previews b r command.Pending = refl
-broken_previews b r (command.Aside a) = refl
+pub previewed_valid : (contents : Contents) (c : Command) → ValidContents contents → {r : Answered} → r ≡ answered contents c
+    → (b : Book) → r.reply ≡ reply.Previewed b → Valid b
+previewed_valid contents c v e b q = subst Sound (sym (ap (λ (x : Answered). x.reply) e) ∙ q) (go contents v)
+  where
+    go : (contents : Contents) → ValidContents contents → Sound (answered contents c).reply
+    go (Ok None) v = none_sound c
+    go (Ok (Some b)) v = book_sound b (v b refl) c
+    go (Err r) v = turned_sound (reply.Refused r) tt c
 
--- the book of an answer: the one that was there, or an accepted one
-pub book_valid : (b : Book) → Valid b → (c : Command) → Valid (answered_book b c).book
+-- the book after an answer: the changed one, or the one that was there
+abbrev pub book_after : Book → Command → Book
+book_after b c = unwrap_or (answered_book b c).changed b
+
+pub book_valid : (b : Book) → Valid b → (c : Command) → Valid (book_after b c)
 book_valid b v (command.Open n w) = v
-book_valid b v (command.Grant x y way colour crew) = go (granted b x y way colour crew).answer
+book_valid b v (command.Grant l) = go (granted b l.x l.y l.way l.colour l.crew).answer
   where
-    go : (a : GrantAnswer) → Valid (granting_by b a (granted b x y way colour crew).book).book
-    go (grant.Granted serial) = keeps_valid.granting b v x y way colour crew
-    go (grant.Refused q) = v
+    go : (a : Result ℕ Refusal) → Valid (unwrap_or (granting_by a (granted b l.x l.y l.way l.colour l.crew).book).changed b)
+    go (Ok serial) = keeps_valid.granting b v l.x l.y l.way l.colour l.crew
+    go (Err r) = v
 book_valid b v command.Preview = v
 book_valid b v (command.Remove serial) = go (removed b serial).answer
   where
-    go : (a : RemoveAnswer) → Valid (removing_by b serial a (removed b serial).book).book
-    go remove.Removed = keeps_valid.removing b v serial
-    go (remove.Refused q) = v
+    go : (a : Result ⊤ Refusal) → Valid (unwrap_or (removing_by serial a (removed b serial).book).changed b)
+    go (Ok removed) = keeps_valid.removing b v serial
+    go (Err r) = v
 book_valid b v (command.Confirm serial) = go (confirmed b serial).answer
   where
-    go : (a : ConfirmAnswer) → Valid (confirming_by b serial a (confirmed b serial).book).book
-    go confirm.Confirmed = keeps_valid.confirming b v serial
-    go (confirm.Refused q) = v
+    go : (a : Result ⊤ Refusal) → Valid (unwrap_or (confirming_by serial a (confirmed b serial).book).changed b)
+    go (Ok confirmed) = keeps_valid.confirming b v serial
+    go (Err r) = v
 book_valid b v (command.Show serial crew) = v
 book_valid b v (command.Holder link colour crew) = v
 book_valid b v command.Count = v
@@ -179,14 +144,3 @@ book_valid b v command.Revision = v
 book_valid b v command.List = v
 book_valid b v command.Pending = v
 book_valid b v (command.Aside a) = v
-
-pub previewed_valid : (contents : Contents) (c : Command) → ValidContents contents → {r : Answered} → r ≡ answered contents c
-    → r.reply ≡ reply.Previewed → Valid r.book
-unfolding answered
-previewed_valid contents c v e = rw e (go contents.state v)
-  where
-    go : (s : State) → (s ≡ Sound → Valid contents.book) → (answered_in s contents.book c).reply ≡ reply.Previewed
-        → Valid (answered_in s contents.book c).book
-    go Absent u q = other (none_previews contents.book c) q
-    go (Broken r) u q = other (broken_previews contents.book r c) q
-    go Sound u q = book_valid contents.book (u refl) c

@@ -1,111 +1,89 @@
 -- What a command answers and does, by what the file holds.
-use Rattle.std.specs.Prelude.{ℕ, ◌≡◌, Bool, true, false, List, [], length}
+use Rattle.std.specs.Prelude.{ℕ, ◌≡◌, length, Option, Some, None, Result, Ok, Err, ⊤}
+use Rattle.ring.specs.declared.refusals.Refusal.{Refusal}
 use Rattle.book.specs.declared.books.Book.{Book}
-use Rattle.book.specs.declared.books.OpenAnswer.{OpenAnswer}
-use Rattle.book.specs.declared.books.OpenAnswer.TheVariants as opening
-use Rattle.book.specs.declared.grants.GrantAnswer.{GrantAnswer}
-use Rattle.book.specs.declared.grants.GrantAnswer.TheVariants as grant
-use Rattle.book.specs.declared.removals.RemoveAnswer.{RemoveAnswer}
-use Rattle.book.specs.declared.removals.RemoveAnswer.TheVariants as remove
-use Rattle.book.specs.declared.confirmations.ConfirmAnswer.{ConfirmAnswer}
-use Rattle.book.specs.declared.confirmations.ConfirmAnswer.TheVariants as confirm
-use Rattle.book.specs.declared.orders.ShowAnswer.{ShowAnswer}
-use Rattle.book.specs.declared.orders.ShowAnswer.TheVariants as show
-use Rattle.book.specs.declared.holders.HolderAnswer.{HolderAnswer}
-use Rattle.book.specs.declared.holders.HolderAnswer.TheVariants as holder
-use Rattle.book.specs.Books.{live_of, Valid, book_of, opened}
+use Rattle.book.specs.declared.circuits.Circuit.{Circuit}
+use Rattle.book.specs.declared.holders.Holder.{Holder}
+use Rattle.book.specs.Books.{live_of, Valid, opened}
+use Rattle.book.specs.Revisions.{revision}
 use Rattle.book.specs.Grants.{granted}
 use Rattle.book.specs.Removals.{removed}
 use Rattle.book.specs.Confirmations.{confirmed}
 use Rattle.book.specs.Orders.{shown_to}
 use Rattle.book.specs.Holders.{held_for}
-use Rattle.stored.specs.declared.loads.LoadAnswer.{LoadAnswer}
-use Rattle.stored.specs.declared.loads.LoadAnswer.TheVariants as load
-use Rattle.stored.specs.Loading.{loaded_either}
+use Rattle.book.specs.declared.grants.Line.{Line}
 use Rattle.book_lines.specs.declared.lines.Command.{Command}
 use Rattle.book_lines.specs.declared.lines.Command.TheVariants as command
-use Rattle.book_text.specs.declared.answers.State.{State}
-use Rattle.book_text.specs.declared.answers.State.TheVariants.{Absent, Broken, Sound}
-use Rattle.book_text.specs.declared.answers.Contents.{Contents}
 use Rattle.book_replies.specs.declared.replies.Reply.{Reply}
-use Rattle.book_replies.specs.declared.replies.Reply.TheVariants.{Opened, Granted, Previewed, Removed, Confirmed, Circuit, Free, Held}
-use Rattle.book_replies.specs.declared.replies.Reply.TheVariants.{HeldBy, Count, Revision, Orders, PendingOrders, Refused}
-use Rattle.book_replies.specs.declared.replies.Reply.TheVariants.{BookThere, NoBook, Aside}
+use Rattle.book_replies.specs.declared.replies.Reply.TheVariants as reply
 use Rattle.book_text.specs.declared.answers.Answered.{Answered}
 
--- a book that was read
-abbrev pub found : Book → Contents
-found b = record { state = Sound; book = b }
+-- what a file holds: its book, if there is a file, or why none can be read from it
+abbrev pub Contents : Type 0
+Contents = Result (Option Book) Refusal
 
--- a file's bytes, by what their load answers
-abbrev pub found_by : LoadAnswer → Book → Contents
-found_by load.Loaded b = found b
-found_by (load.Refused r) b = record { state = Broken r; book = b }
-
--- what a file holds, in either form; without a book, a book of no nodes stands for it
-abbrev pub contents_in : Bool → List ℕ → Contents
-contents_in false bytes = record { state = Absent; book = book_of 0 0 0 [] }
-contents_in true bytes = found_by (loaded_either bytes).answer (loaded_either bytes).book
+-- a file's bytes, by what their load answers: a book in either form
+abbrev pub found_by : Result ⊤ Refusal → Book → Contents
+found_by (Ok loaded) b = Ok (Some b)
+found_by (Err r) b = Err r
 
 -- the book, if there is one, is a valid one
 abbrev pub ValidContents : Contents → Type 0
-ValidContents contents = contents.state ≡ Sound → Valid contents.book
+ValidContents contents = (b : Book) → contents ≡ Ok (Some b) → Valid b
 
 -- an answer that changes nothing
-abbrev pub only : Book → Reply → Answered
-only b reply = record { reply = reply; changes = false; book = b }
+abbrev pub only : Reply → Answered
+only said = record { reply = said; changed = None }
 
 -- an answer with a book that is to be stored
 abbrev pub replacing : Book → Reply → Answered
-replacing b reply = record { reply = reply; changes = true; book = b }
+replacing b said = record { reply = said; changed = Some b }
 
 -- opening, by the book's own answer: a refusal changes nothing
-abbrev pub opening_by : Book → ℕ → ℕ → OpenAnswer → Book → Answered
-opening_by b n w opening.Opened fresh = replacing fresh (Opened n w)
-opening_by b n w (opening.Refused r) fresh = only b (Refused r)
+abbrev pub opening_by : ℕ → ℕ → Result ⊤ Refusal → Book → Answered
+opening_by n w (Ok opened) fresh = replacing fresh (reply.Opened n w)
+opening_by n w (Err r) fresh = only (reply.Refused r)
 
 -- a grant, by the book's own answer
-abbrev pub granting_by : Book → GrantAnswer → Book → Answered
-granting_by b (grant.Granted serial) next = replacing next (Granted serial)
-granting_by b (grant.Refused r) next = only b (Refused r)
+abbrev pub granting_by : Result ℕ Refusal → Book → Answered
+granting_by (Ok serial) next = replacing next (reply.Granted serial)
+granting_by (Err r) next = only (reply.Refused r)
 
 -- a removal, by the book's own answer
-abbrev pub removing_by : Book → ℕ → RemoveAnswer → Book → Answered
-removing_by b serial remove.Removed next = replacing next (Removed serial)
-removing_by b serial (remove.Refused r) next = only b (Refused r)
+abbrev pub removing_by : ℕ → Result ⊤ Refusal → Book → Answered
+removing_by serial (Ok removed) next = replacing next (reply.Removed serial)
+removing_by serial (Err r) next = only (reply.Refused r)
 
 -- a confirmation, by the book's own answer
-abbrev pub confirming_by : Book → ℕ → ConfirmAnswer → Book → Answered
-confirming_by b serial confirm.Confirmed next = replacing next (Confirmed serial)
-confirming_by b serial (confirm.Refused r) next = only b (Refused r)
+abbrev pub confirming_by : ℕ → Result ⊤ Refusal → Book → Answered
+confirming_by serial (Ok confirmed) next = replacing next (reply.Confirmed serial)
+confirming_by serial (Err r) next = only (reply.Refused r)
 
 -- what show replies, by the book's own answer
-abbrev pub showing_by : ShowAnswer → Reply
-showing_by (show.Shown c) = Circuit c.a c.b c.way c.colour
-showing_by (show.Refused r) = Refused r
+abbrev pub showing_by : Result Circuit Refusal → Reply
+showing_by (Ok c) = reply.Circuit c
+showing_by (Err r) = reply.Refused r
 
 -- what holder replies, by the book's own answer
-abbrev pub holding_by : HolderAnswer → Reply
-holding_by holder.Free = Free
-holding_by holder.Held = Held
-holding_by (holder.HeldBy serial) = HeldBy serial
-holding_by (holder.Refused r) = Refused r
+abbrev pub holding_by : Result Holder Refusal → Reply
+holding_by (Ok h) = reply.Holder h
+holding_by (Err r) = reply.Refused r
 
 -- `open N W`
-abbrev pub opening_answer : Book → ℕ → ℕ → Answered
-opening_answer b n w = opening_by b n w (opened n w).answer (opened n w).book
+abbrev pub opening_answer : ℕ → ℕ → Answered
+opening_answer n w = opening_by n w (opened n w).answer (opened n w).book
 
 -- `grant X Y WAY COLOUR CREW`
-abbrev pub grant_answer : Book → ℕ → ℕ → ℕ → ℕ → ℕ → Answered
-grant_answer b x y way colour crew = granting_by b (granted b x y way colour crew).answer (granted b x y way colour crew).book
+abbrev pub grant_answer : Book → Line → Answered
+grant_answer b l = granting_by (granted b l.x l.y l.way l.colour l.crew).answer (granted b l.x l.y l.way l.colour l.crew).book
 
 -- `remove SERIAL`
 abbrev pub remove_answer : Book → ℕ → Answered
-remove_answer b serial = removing_by b serial (removed b serial).answer (removed b serial).book
+remove_answer b serial = removing_by serial (removed b serial).answer (removed b serial).book
 
 -- `confirm SERIAL`
 abbrev pub confirm_answer : Book → ℕ → Answered
-confirm_answer b serial = confirming_by b serial (confirmed b serial).answer (confirmed b serial).book
+confirm_answer b serial = confirming_by serial (confirmed b serial).answer (confirmed b serial).book
 
 -- `show SERIAL CREW`
 abbrev pub show_reply : Book → ℕ → ℕ → Reply
@@ -116,56 +94,32 @@ abbrev pub holder_reply : Book → ℕ → ℕ → ℕ → Reply
 holder_reply b link colour crew = holding_by (held_for crew b link colour)
 
 -- a command that there is no book for gets this reply; an aside asks for none
-abbrev pub turned_down : Book → Reply → Command → Answered
-turned_down b reply (command.Open n w) = only b reply
-turned_down b reply (command.Grant x y way colour crew) = only b reply
-turned_down b reply command.Preview = only b reply
-turned_down b reply (command.Remove serial) = only b reply
-turned_down b reply (command.Confirm serial) = only b reply
-turned_down b reply (command.Show serial crew) = only b reply
-turned_down b reply (command.Holder link colour crew) = only b reply
-turned_down b reply command.Count = only b reply
-turned_down b reply command.Revision = only b reply
-turned_down b reply command.List = only b reply
-turned_down b reply command.Pending = only b reply
-turned_down b reply (command.Aside a) = only b (Aside a)
+abbrev pub turned_down : Reply → Command → Answered
+turned_down said (command.Aside a) = only (reply.Aside a)
+turned_down said _ = only said
 
 -- where there is no file, a book may be opened
-abbrev pub answered_none : Book → Command → Answered
-answered_none b (command.Open n w) = opening_answer b n w
-answered_none b (command.Grant x y way colour crew) = only b NoBook
-answered_none b command.Preview = only b NoBook
-answered_none b (command.Remove serial) = only b NoBook
-answered_none b (command.Confirm serial) = only b NoBook
-answered_none b (command.Show serial crew) = only b NoBook
-answered_none b (command.Holder link colour crew) = only b NoBook
-answered_none b command.Count = only b NoBook
-answered_none b command.Revision = only b NoBook
-answered_none b command.List = only b NoBook
-answered_none b command.Pending = only b NoBook
-answered_none b (command.Aside a) = only b (Aside a)
+abbrev pub answered_none : Command → Answered
+answered_none (command.Open n w) = opening_answer n w
+answered_none c = turned_down reply.NoBook c
 
 -- where there is a book, it is asked
 abbrev pub answered_book : Book → Command → Answered
-answered_book b (command.Open n w) = only b BookThere
-answered_book b (command.Grant x y way colour crew) = grant_answer b x y way colour crew
-answered_book b command.Preview = only b Previewed
+answered_book b (command.Open n w) = only reply.BookThere
+answered_book b (command.Grant l) = grant_answer b l
+answered_book b command.Preview = only (reply.Previewed b)
 answered_book b (command.Remove serial) = remove_answer b serial
 answered_book b (command.Confirm serial) = confirm_answer b serial
-answered_book b (command.Show serial crew) = only b (show_reply b serial crew)
-answered_book b (command.Holder link colour crew) = only b (holder_reply b link colour crew)
-answered_book b command.Count = only b (Count (length (live_of b)) b.grants)
-answered_book b command.Revision = only b Revision
-answered_book b command.List = only b Orders
-answered_book b command.Pending = only b PendingOrders
-answered_book b (command.Aside a) = only b (Aside a)
+answered_book b (command.Show serial crew) = only (show_reply b serial crew)
+answered_book b (command.Holder link colour crew) = only (holder_reply b link colour crew)
+answered_book b command.Count = only (reply.Count (length (live_of b)) b.grants)
+answered_book b command.Revision = only (reply.Revision (revision b))
+answered_book b command.List = only (reply.Orders b)
+answered_book b command.Pending = only (reply.PendingOrders b)
+answered_book b (command.Aside a) = only (reply.Aside a)
 
--- by the state of the file: one that is in neither form gets its refusal for an answer
-abbrev pub answered_in : State → Book → Command → Answered
-answered_in Absent b c = answered_none b c
-answered_in (Broken r) b c = turned_down b (Refused r) c
-answered_in Sound b c = answered_book b c
-
--- the answer to a command, and the book after it
-unfoldable pub answered : Contents → Command → Answered
-answered contents c = answered_in contents.state contents.book c
+-- the answer to a command, by what the file holds: one that is in neither form gets its refusal for an answer
+abbrev pub answered : Contents → Command → Answered
+answered (Ok None) c = answered_none c
+answered (Ok (Some b)) c = answered_book b c
+answered (Err r) c = turned_down (reply.Refused r) c

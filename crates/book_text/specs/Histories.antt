@@ -1,13 +1,11 @@
 -- What every run of lines comes to: the book in the file goes through the book's own histories.
-use Rattle.std.specs.Prelude.{ℕ, ◌≡◌, true, false, List, [], ◌∷◌, ◌++◌}
-use Rattle.ring.specs.declared.refusals.Verdict.TheVariants.{Allowed}
+use Rattle.std.specs.Prelude.{ℕ, ◌≡◌, Some, None, Ok, List, [], ◌∷◌, ◌++◌}
 use Rattle.ring.specs.Admission.{ring_verdict}
 use Rattle.texts.specs.Bytes.{bytes}
 use Rattle.book.specs.declared.books.Book.{Book}
 use Rattle.book.specs.Books.{opened}
 use Rattle.book.specs.History.{Call, Grant, Remove, Confirm, Show, Holder, run}
 use Rattle.stored.specs.declared.forms.Form.TheVariants.{New}
-use Rattle.stored.specs.declared.loads.LoadAnswer.TheVariants.{Loaded}
 use Rattle.stored.specs.Forms.{stored_form}
 use Rattle.stored.specs.Loading.{loaded_old}
 use Rattle.stored.specs.Histories.{StoredAfter}
@@ -15,7 +13,7 @@ use Rattle.book_lines.specs.declared.lines.Command.{Command}
 use Rattle.book_lines.specs.declared.lines.Command.TheVariants as command
 use Rattle.book_lines.specs.Lines.{command_of}
 use Rattle.book_text.specs.Answers.{answered_book}
-use Rattle.book_text.specs.Promises.{File, none, holding, line_answer, file_after, obeyed}
+use Rattle.book_text.specs.Promises.{File, line_answer, file_after, obeyed}
 
 -- the file after lines, the latest first: each acts on the file as the one before it left it
 abbrev pub file_after_all : File → List (List ℕ) → File
@@ -25,7 +23,7 @@ file_after_all file (line ∷ lines) = file_after (file_after_all file lines) li
 -- the call on the book that a command is, in front of those before it; the other commands are none
 abbrev pub called : Command → List Call → List Call
 called (command.Open n w) calls = calls
-called (command.Grant x y way colour crew) calls = Grant x y way colour crew ∷ calls
+called (command.Grant l) calls = Grant l.x l.y l.way l.colour l.crew ∷ calls
 called command.Preview calls = calls
 called (command.Remove serial) calls = Remove serial ∷ calls
 called (command.Confirm serial) calls = Confirm serial ∷ calls
@@ -45,24 +43,24 @@ calls_of (line ∷ lines) = called (command_of line) (calls_of lines)
 -- a file that holds the book after these calls from an opening, and answers each line as that book does
 pub record FileHolds (n w : ℕ) (calls : List Call) (file : File) : Type 0 where
   pub bytes : List ℕ
-  pub there : file ≡ holding bytes
+  pub there : file ≡ Some bytes
   pub stored : StoredAfter n w calls bytes
   pub answers : (line : List ℕ) → obeyed file line ≡ answered_book (run (opened n w).book calls) (command_of line)
 
 -- a file in the old form answers each line as its book does, and a line that changes the book leaves the new form of the changed one
 pub record OldFile (bytes : List ℕ) (b : Book) : Type 0 where
-  pub answers : (line : List ℕ) → obeyed (holding bytes) line ≡ answered_book b (command_of line)
-  pub changed : (line : List ℕ) → (answered_book b (command_of line)).changes ≡ true
-      → file_after (holding bytes) line ≡ holding (stored_form New (answered_book b (command_of line)).book)
-  pub left : (line : List ℕ) → (answered_book b (command_of line)).changes ≡ false → file_after (holding bytes) line ≡ holding bytes
+  pub answers : (line : List ℕ) → obeyed (Some bytes) line ≡ answered_book b (command_of line)
+  pub changed : (line : List ℕ) (d : Book) → (answered_book b (command_of line)).changed ≡ Some d
+      → file_after (Some bytes) line ≡ Some (stored_form New d)
+  pub left : (line : List ℕ) → (answered_book b (command_of line)).changed ≡ None → file_after (Some bytes) line ≡ Some bytes
 
 -- a line that opens a book leaves its new form; then it is so after all lines; what loads as the old form is a file in the old form
 pub record LineHistories : Type 0 where
-  pub opening : (n w : ℕ) → ring_verdict n w ≡ Allowed → (line : List ℕ) → command_of line ≡ command.Open n w
-      → file_after none line ≡ holding (stored_form New (opened n w).book)
-  pub lines : (n w : ℕ) → ring_verdict n w ≡ Allowed → (lines : List (List ℕ))
-      → FileHolds n w (calls_of lines) (file_after_all (holding (stored_form New (opened n w).book)) lines)
-  pub old : (bytes : List ℕ) → (loaded_old bytes).answer ≡ Loaded → OldFile bytes (loaded_old bytes).book
+  pub opening : (n w : ℕ) → ring_verdict n w ≡ Ok tt → (line : List ℕ) → command_of line ≡ command.Open n w
+      → file_after None line ≡ Some (stored_form New (opened n w).book)
+  pub lines : (n w : ℕ) → ring_verdict n w ≡ Ok tt → (lines : List (List ℕ))
+      → FileHolds n w (calls_of lines) (file_after_all (Some (stored_form New (opened n w).book)) lines)
+  pub old : (bytes : List ℕ) → (loaded_old bytes).answer ≡ Ok tt → OldFile bytes (loaded_old bytes).book
 
 -- the answers to lines, one behind the other
 abbrev pub line_answers : File → List (List ℕ) → List ℕ
@@ -72,7 +70,7 @@ line_answers file (line ∷ lines) = line_answer file line ++ line_answers (file
 -- T7 as it is typed, with what it says of the grant "Without the confirmation", and the revision at its end
 abbrev pub TypedT7 : Type 0
 TypedT7 =
-    line_answers none
+    line_answers None
     (bytes "open 4 1\n"
     ∷ bytes "grant 0 2 0 0\n"
     ∷ bytes "grant 2 3 0 0\n"

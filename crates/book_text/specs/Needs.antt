@@ -7,14 +7,8 @@ use Rattle.book_text.specs.declared.obeying.Need.TheVariants.{Nothing, Reading, 
 -- "A question reads the file and answers", a change puts other bytes in the place of the file's, and an aside needs no file
 abbrev pub need_of : Command → Need
 need_of (command.Open n w) = Writing
-need_of (command.Grant x y way colour crew) = Writing
+need_of (command.Grant l) = Writing
 need_of (command.Remove serial) = Writing
 need_of (command.Confirm serial) = Writing
-need_of command.Preview = Reading
-need_of (command.Show serial crew) = Reading
-need_of (command.Holder link colour crew) = Reading
-need_of command.Count = Reading
-need_of command.Revision = Reading
-need_of command.List = Reading
-need_of command.Pending = Reading
 need_of (command.Aside a) = Nothing
+need_of _ = Reading

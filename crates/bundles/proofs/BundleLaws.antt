@@ -1,61 +1,19 @@
--- Lines on their way into a bundle, and the preview of a bundle that has them.
-use Prim.Native.Nat.{ℕ, ◌+◌, ◌≤◌, ◌<◌}
+-- The lines of a bundle, and the preview of a bundle that has them.
+use Prim.Native.Nat.{ℕ, ◌≤◌}
 use mathlib.Core.Path.{◌≡◌, sym, ◌∙◌, ap}
-use mathlib.Core.List.{List, [], ◌∷◌, ◌++◌}
+use mathlib.Core.List.{List}
 use mathlib.Core.Logic.{inr}
 use native.Mathlib.Omega.{arith}
-use native.Mathlib.Numerals.{add-one}
-use lib.ListN.{length, take, set, length-append}
-use lib.Seq.{take-suc-set, take-length}
-use Rattle.ring.specs.declared.refusals.Verdict.{Verdict}
+use lib.ListN.{length, take}
+use lib.Seq.{take-length}
+use Rattle.ring.specs.Refusals.{Verdict}
 use Rattle.ring.proofs.Cases.{less, not_less, compare}
 use Rattle.book.specs.declared.books.Book.{Book}
-use Rattle.bundles.specs.declared.bundles.Line.{Line}
+use Rattle.book.specs.declared.grants.Line.{Line}
 use Rattle.bundles.specs.declared.bundles.Bundle.{Bundle}
 use Rattle.bundles.specs.Previews.{size_verdict, preview_unless, previewed, previewed_all}
 use Rattle.bundles.specs.Internal.Bundles.{Bundled}
 use Rattle.bundles.proofs.PreviewLaws.{size_refused}
-
--- one line more
-module _ (bundle : Bundle) (l : Line) (ls : List Line) (has : Bundled bundle ls) where
-  -- the lines are too many before
-  pub bundled_crowded : 16 < bundle.count → Bundled bundle (ls ++ (l ∷ []))
-  bundled_crowded h = record { few = λ k. absurd (short k); many = λ k. h }
-    where
-      short : length (ls ++ (l ∷ [])) ≤ 16 → ⊥
-      short k =
-          let n = length-append ls (l ∷ []) in
-          let same = (has.few (omega arith)).0 in
-          omega arith
-
-  -- the line is kept
-  pub bundled_more : bundle.count < 16 → length bundle.lines ≡ 16
-      → Bundled (record { count = bundle.count + 1; lines = set bundle.lines bundle.count l }) (ls ++ (l ∷ []))
-  bundled_more h size = elim (compare 16 (length ls)) [
-    | less k q ↦ let crowded = has.many k in absurd (omega arith)
-    | not_less k q ↦
-        let p = has.few k in
-        let n : length (ls ++ (l ∷ [])) ≡ bundle.count + 1 = length-append ls (l ∷ []) ∙ ap (λ (m : ℕ). m + 1) (sym p.0) in
-        record {
-          few = λ m. (
-            sym n,
-            ap (λ (m : ℕ). take m (set bundle.lines bundle.count l)) n
-                ∙ (rw add-one (take-suc-set bundle.lines bundle.count l (omega arith))
-                ∙ ap (λ (xs : List Line). xs ++ (l ∷ [])) (ap (λ (m : ℕ). take m bundle.lines) p.0 ∙ p.1)),
-          );
-          many = λ m. absurd (omega arith);
-        }
-  ]
-
-  -- it is the seventeenth
-  pub bundled_full : bundle.count ≡ 16 → Bundled (record { count = bundle.count + 1; lines = bundle.lines }) (ls ++ (l ∷ []))
-  bundled_full h = record { few = λ k. absurd (short k); many = λ k. omega arith }
-    where
-      short : length (ls ++ (l ∷ [])) ≤ 16 → ⊥
-      short k =
-          let n = length-append ls (l ∷ []) in
-          let same = (has.few (omega arith)).0 in
-          omega arith
 
 -- whether there are lines
 module _ (bundle : Bundle) (ls : List Line) (has : Bundled bundle ls) where

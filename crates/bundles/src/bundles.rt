@@ -1,16 +1,9 @@
 // Bundles: grants that are tried together.
 ghost use Rattle.std.specs.Prelude.{List, [], ◌∷◌, ◌++◌};
+ghost use Rattle.book.specs.declared.grants.Line.{Line};
 ghost use Rattle.bundles.specs.Internal.Bundles.{Bundled};
 
-// A grant that is asked for: two ends in any order, the way (0 plain, 1 seam), the colour, the crew.
-#[derive(Clone, Copy)]
-pub struct Line {
-    pub x: u16,
-    pub y: u16,
-    pub way: u16,
-    pub colour: u16,
-    pub crew: u16,
-}
+use book::Line;
 
 // Room for 16 lines, and their number as the caller gives it.
 #[derive(Clone, Copy)]
@@ -33,27 +26,19 @@ impl Bundle {
             colour: 0,
             crew: 0,
         };
-        let lines = [line; 16];
         Bundle {
             count: 0,
-            lines: lines,
+            lines: [line; 16],
         }
     }
-}
 
-// The bundle with one line more behind the others; a line too many is counted and not kept.
-pub fn with_line(bundle: Bundle, line: Line) -> Bundle
-    ensures { (lines : List Line) → Bundled bundle lines → Bundled result (lines ++ (line ∷ [])) }
-{
-    let count = bundle.count;
-    if Bundle::LINES < count {
-        return bundle;
+    // One line more behind the others; a line too many is counted and not kept.
+    pub fn push(&mut self, line: Line)
+        ensures { (lines : List Line) → Bundled self.old lines → Bundled self.new (lines ++ (line ∷ [])) }
+    {
+        if self.count < Self::LINES {
+            self.lines[self.count] = line;
+        }
+        self.count = self.count.saturating_add(1);
     }
-    let mut longer = bundle;
-    longer.count = count + 1;
-    if count == Bundle::LINES {
-        return longer;
-    }
-    longer.lines[count] = line;
-    longer
 }

@@ -1,97 +1,60 @@
 // Trying grants before making them.
-ghost use Rattle.std.specs.Prelude.{◌≡◌, ◌≤◌, length};
-ghost use Rattle.bundles.specs.Previews.{size_verdict, no_preview, serials_of, PreviewPromise};
+ghost use Rattle.std.specs.Prelude.{◌≡◌};
+ghost use Rattle.bundles.specs.Previews.{size_verdict, serials_of, PreviewPromise};
 
 use super::bundles::Bundle;
-use book::grants::GrantAnswer;
-use book::{Book, grant};
+use book::Book;
 use ring::Refusal;
-use ring::flags::either;
-use ring::numbers::wide;
-use ring::refusals::{Verdict, refuse_if};
+use ring::refusals::refuse_if;
 
-// Every line would be granted; or this line, counted from 0, would be turned down; or no line was looked at.
-#[derive(Clone, Copy)]
-pub enum PreviewAnswer {
-    AllGranted,
-    Stopped(u16, Refusal),
-    Refused(Refusal),
-}
-
-// The answer, and the serials that the lines would get: so many, and zeros behind them.
+// The line that would be turned down, counted from 0, with its refusal, if there is one; and the serials that the lines before it would
+// get: so many, and zeros behind them.
 #[derive(Clone, Copy)]
 pub struct Previewed {
-    pub answer: PreviewAnswer,
+    pub stopped: Option<(u16, Refusal)>,
     pub count: u16,
     pub serials: [u16; 16],
 }
 
 impl Previewed {
-    // A preview that looks at no line.
-    pub fn refused(refusal: Refusal) -> Previewed
-        ensures { result ≡ no_preview refusal }
+    // The serials: of any value of the struct, never more than there are entries.
+    pub fn serials(&self) -> &[u16]
+        ensures { result.now ≡ serials_of self.now }
     {
-        let serials = [0u16; 16];
-        Previewed {
-            answer: PreviewAnswer::Refused(refusal),
-            count: 0,
-            serials: serials,
-        }
+        &self.serials[..usize::from(self.count).min(16)]
     }
 }
 
 // 22, for no line or more than there is room for.
-fn size_verdict(count: usize) -> Verdict
+fn size_verdict(count: usize) -> Result<(), Refusal>
     ensures { result ≡ size_verdict count }
 {
-    refuse_if(either(count == 0, 16 < count), Refusal::LineCount)
-}
-
-// The number of serials: of any value of the struct, never more than there are entries.
-pub fn serial_count(preview: Previewed) -> usize
-    ensures { (result ≡ length (serials_of preview)) × (result ≤ 16) }
-{
-    let count = wide(preview.count);
-    if count < 16 { count } else { 16 }
+    refuse_if(count == 0 || 16 < count, Refusal::LineCount)
 }
 
 // The serials that the lines would get, granted one after another on a copy of the book, up to the first that would be turned down.
-pub fn preview(book: Book, bundle: Bundle) -> Previewed
-    ensures { PreviewPromise book bundle.count bundle.lines result }
+pub fn preview(book: &Book, bundle: &Bundle) -> Result<Previewed, Refusal>
+    ensures { PreviewPromise book.now bundle.now.count bundle.now.lines result }
 {
-    let count = bundle.count;
-    let size = size_verdict(count);
-    if let Verdict::Refused(refusal) = size {
-        return Previewed::refused(refusal);
-    }
-    let mut copy = book;
+    size_verdict(bundle.count)?;
+    let mut copy = *book;
     let mut serials = [0u16; 16];
-    let mut number: u16 = 0;
-    let mut i: usize = 0;
-    while i < count {
-        let line = bundle.lines[i];
-        let granted = grant(copy, line.x, line.y, line.way, line.colour, line.crew);
-        let answer = granted.answer;
-        let next = granted.book;
-        match answer {
-            GrantAnswer::Granted(serial) => {
-                serials[i] = serial;
-            }
-            GrantAnswer::Refused(refusal) => {
-                return Previewed {
-                    answer: PreviewAnswer::Stopped(number, refusal),
+    for i in 0..bundle.count {
+        match copy.grant(bundle.lines[i]) {
+            Ok(serial) => serials[i] = serial,
+            Err(refusal) => {
+                let number = i as u16;
+                return Ok(Previewed {
+                    stopped: Some((number, refusal)),
                     count: number,
-                    serials: serials,
-                };
+                    serials,
+                });
             }
         }
-        copy = next;
-        number += 1;
-        i += 1;
     }
-    Previewed {
-        answer: PreviewAnswer::AllGranted,
-        count: number,
-        serials: serials,
-    }
+    Ok(Previewed {
+        stopped: None,
+        count: bundle.count as u16,
+        serials,
+    })
 }

@@ -8,34 +8,31 @@ mod answers;
 mod calls;
 
 use answers::write_totals;
-use book::open;
+use book::Book;
 use calls::play_calls;
+use std::io;
 use std::io::{Eprint, Print};
-use stored::words::word_at;
-use streams::{Reading, read_to_end};
+use streams::read_to_end;
 
-// The book is opened with the first two words, or with zeros if they are not both there. Where that is refused, the calls act on the
-// book of no nodes that stands beside the refusal.
-fn play<R: Print>(rt: &R, bytes: &[u8]) {
-    if bytes.len() < 4 {
-        let opened = open(0, 0);
-        let book = opened.book;
-        write_totals(rt, book);
-        return;
-    }
-    let opened = open(word_at(bytes, 0), word_at(bytes, 2));
-    let book = opened.book;
-    let after = play_calls(rt, book, &bytes[4..]);
-    write_totals(rt, after);
+// The book is opened with the first two words. Where that is refused, or they are not both there, the calls act on the book of no nodes.
+fn play<R: Print>(rt: &R, words: &[[u8; 2]]) -> io::Result<()> {
+    let [n, w, calls @ ..] = words else {
+        return write_totals(rt, &Book::blank(0, 0, 0));
+    };
+    let opened = Book::open(u16::from_le_bytes(*n), u16::from_le_bytes(*w));
+    let mut book = opened.unwrap_or(Book::blank(0, 0, 0));
+    play_calls(rt, &mut book, calls)?;
+    write_totals(rt, &book)
 }
 
 fn main(rt: HostRuntime) {
     let mut bytes = [0u8; 65536];
     let mut input = rt.stdin();
-    let reading = read_to_end(&mut input, &mut bytes);
-    match reading {
-        Reading::Read(length) => play(&rt, &bytes[..length]),
-        Reading::Failed(_) => {
+    match read_to_end(&mut input, &mut bytes) {
+        Ok(length) => {
+            let _ = play(&rt, bytes[..length].as_chunks::<2>().0);
+        }
+        Err(_) => {
             let _ = rt.eprint("error the input cannot be read\n");
         }
     }

@@ -9,7 +9,7 @@ use Rattle.ring.specs.declared.requests.Request.{Request}
 use Rattle.ring.specs.declared.fates.Fate.{Fate}
 use Rattle.ring.specs.declared.fates.Fate.TheVariants.{Blocked, Served}
 use Rattle.ring.specs.declared.ways.Way.TheVariants.{Plain}
-use Rattle.ring.specs.declared.refusals.Verdict.TheVariants.{Allowed}
+use Rattle.std.specs.Prelude.{Ok}
 use Rattle.ring.specs.Requests.{request_of}
 use Rattle.ring.specs.Plans.{served}
 use Rattle.ring.specs.Chords.{compatible}
@@ -62,7 +62,7 @@ module _ (n x y z t : ℕ) (chain : chain_part n 1 (two_requests x y z t) ≡ Se
       plan_pair n 1 (two_requests x y z t) P (rw (chain, paired _ _ _ _ _ computed P m) (omega arith))
       ∙ ap (pair_part n 1 (two_requests x y z t)) (only_pair P m l)
 
-  pub pair_plans : {fates : List Fate} → ring_verdict n 1 ≡ Allowed → list_verdict n (x ∷ y ∷ z ∷ t ∷ []) ≡ Allowed
+  pub pair_plans : {fates : List Fate} → ring_verdict n 1 ≡ Ok tt → list_verdict n (x ∷ y ∷ z ∷ t ∷ []) ≡ Ok tt
       → pair_part n 1 (two_requests x y z t) (pairing 0 1 ∷ []) ≡ fates → 2 ≡ length fates
       → Plans n 1 (x ∷ y ∷ z ∷ t ∷ []) (line2 1 1 2 part.Pair 2) fates
   unfolding served

@@ -10,7 +10,7 @@ use borrow.Author.Tests.{ltb-true, le-ltb}
 use Rattle.ring.specs.declared.requests.Request.{Request}
 use Rattle.ring.specs.Requests.{request, requests_of}
 use Rattle.ring.specs.declared.refusals.Refusal.TheVariants.{TableShort}
-use Rattle.ring.specs.declared.refusals.Verdict.TheVariants.{Allowed}
+use Rattle.std.specs.Prelude.{Ok}
 use Rattle.ring.specs.Admission.{ring_verdict, list_verdict, call_verdict}
 use Rattle.ring.proofs.AdmissionLaws.{allowed_both, allowed_refuse}
 use Rattle.ring.specs.declared.fates.Fate.{Fate}
@@ -22,7 +22,6 @@ use Rattle.ring.proofs.Cases.{eqb_refl, impossible}
 use Rattle.ring.proofs.Counting.{has}
 use Rattle.chain.specs.ChainPart.{chain_part}
 use Rattle.planner.specs.declared.answers.Summary.{Summary}
-use Rattle.planner.specs.declared.answers.PlanAnswer.TheVariants.{Planned}
 use Rattle.planner.specs.PairPart.{ByLower, pair_part, pair_count}
 use Rattle.planner.specs.Plan.{better, part_used, plan_of, ceiling_of, summary}
 use Rattle.planner.specs.Ceiling.{MatchBound}
@@ -121,8 +120,8 @@ pub record Determined (n w : ℕ) (R : List Request) (counts : Summary) (Right :
   pub written : (before : List ℕ) → Right before (map fate_number (plan_of n w R P) ++ drop (length R) before)
 
 -- from them, for every maximum matching, to what a call of plan gives and writes
-pub case_plans : {n w : ℕ} {ends : List ℕ} {counts : Summary} {Right : List ℕ → List ℕ → Type 0} → ring_verdict n w ≡ Allowed
-    → list_verdict n ends ≡ Allowed → length ends / 2 ≡ length (requests_of ends)
+pub case_plans : {n w : ℕ} {ends : List ℕ} {counts : Summary} {Right : List ℕ → List ℕ → Type 0} → ring_verdict n w ≡ Ok tt
+    → list_verdict n ends ≡ Ok tt → length ends / 2 ≡ length (requests_of ends)
     → ((P : List Pair) → IsMaximum (requests_of ends) P → ByLower P → Determined n w (requests_of ends) counts Right P)
     → PlansTo n w ends counts Right
 unfolding call_verdict
@@ -130,7 +129,7 @@ case_plans {n} {w} {ends} {counts} {Right} ring list half each before after resu
     let enough : ltb (length before) (length ends / 2) ≡ false = le-ltb (length before) (length ends / 2) (omega arith) in
     let made = promise.planned (allowed_both _ _ ring (allowed_both _ _ list (allowed_refuse _ TableShort enough))) in
     let determined = each made.pairs made.maximum made.by_lower in
-    (made.counts ∙ ap Planned determined.counted, rw made.table (determined.written before))
+    (made.counts ∙ ap Ok determined.counted, rw made.table (determined.written before))
 
 -- where the fates are the same by every maximum matching
 pub writes : {F fates : List Fate} (m : ℕ) → F ≡ fates → m ≡ length fates → (before : List ℕ)

@@ -8,7 +8,7 @@ use Rattle.ring.specs.Ways.{uses, some_link, share_link}
 use Rattle.ring.specs.Fates.{fate_of, fate_number}
 use Rattle.ring.specs.Plans.{served}
 use Rattle.ring.specs.Admission.{ring_verdict, ends_verdict, request_verdicts, count_verdict, list_verdict, call_verdict}
-use Rattle.checker.specs.declared.CheckAnswer.TheVariants.{Passed, Refused}
+use Rattle.std.specs.Prelude.{Ok, Err}
 use Rattle.checker.specs.Check.{first_ground, number_verdict, number_verdicts, conflicting, pair_verdict, later_verdict, pair_verdicts}
 use Rattle.checker.specs.Check.{table_answer, check_answer}
 use Rattle.planner.specs.declared.answers.Part.TheVariants as part
@@ -46,12 +46,12 @@ prints_t1 before after size room promise =
     (printed.whole ∙ ap length output, rw output at printed.buffer)
 
 -- T10: the answers
-pub refused_t10 : check_answer 4 1 ends_t4 (1 ∷ 1 ∷ []) ≡ Refused (Conflict 0 1)
+pub refused_t10 : check_answer 4 1 ends_t4 (1 ∷ 1 ∷ []) ≡ Err (Conflict 0 1)
 unfolding check_answer table_answer number_verdicts number_verdict pair_verdicts later_verdict pair_verdict conflicting first_ground call_verdict
     ring_verdict count_verdict list_verdict request_verdicts ends_verdict share_link some_link uses fate_of served
 refused_t10 = refl
 
-pub passes_t10 : check_answer 4 1 ends_t4 (1 ∷ 0 ∷ []) ≡ Passed 1
+pub passes_t10 : check_answer 4 1 ends_t4 (1 ∷ 0 ∷ []) ≡ Ok 1
 unfolding check_answer table_answer number_verdicts number_verdict pair_verdicts later_verdict pair_verdict conflicting first_ground call_verdict
     ring_verdict count_verdict list_verdict request_verdicts ends_verdict share_link some_link uses fate_of served
 passes_t10 = refl

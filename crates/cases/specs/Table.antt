@@ -1,8 +1,9 @@
 -- The cases of the rules that are marked with T, in their order: one record for each, each field a figure of the case.
-use Rattle.std.specs.Prelude.{ℕ, ◌*◌, ◌≤◌, ◌≡◌, List, [], ◌∷◌, ◌++◌, map, ◌⊎◌, length, drop, replicate}
+use Rattle.std.specs.Prelude.{ℕ, ◌*◌, ◌≤◌, ◌≡◌, List, [], ◌∷◌, ◌++◌, map, ◌⊎◌, length, drop, replicate, Result, Ok, Err}
 use Rattle.ring.specs.declared.fates.Fate.{Fate}
 use Rattle.ring.specs.declared.fates.Fate.TheVariants.{Blocked, Served}
 use Rattle.ring.specs.declared.ways.Way.TheVariants.{Plain, Seam}
+use Rattle.ring.specs.declared.refusals.Refusal.{Refusal}
 use Rattle.ring.specs.declared.refusals.Refusal.TheVariants.{ColourHeld, SerialNeverGiven, SerialRemoved, Conflict}
 use Rattle.ring.specs.declared.refusals.Carried.TheVariants.{Two}
 use Rattle.ring.specs.Requests.{requests_of}
@@ -12,15 +13,8 @@ use Rattle.ring.specs.Refusals.{number_of, carried_by}
 use Rattle.planner.specs.declared.answers.Part.TheVariants as part
 use Rattle.planner.specs.declared.answers.Part.{Part}
 use Rattle.planner.specs.declared.answers.Summary.{Summary}
-use Rattle.planner.specs.declared.answers.PlanAnswer.{PlanAnswer}
-use Rattle.planner.specs.declared.answers.PlanAnswer.TheVariants.{Planned}
 use Rattle.planner.specs.Promise.{PlanPromise}
-use Rattle.checker.specs.declared.CheckAnswer.TheVariants.{Passed, Refused}
 use Rattle.checker.specs.Check.{check_answer}
-use Rattle.book.specs.declared.grants.GrantAnswer.TheVariants as grant
-use Rattle.book.specs.declared.removals.RemoveAnswer.TheVariants as remove
-use Rattle.book.specs.declared.confirmations.ConfirmAnswer.TheVariants as confirm
-use Rattle.book.specs.declared.orders.ShowAnswer.TheVariants as show
 use Rattle.book.specs.Circuits.{desk}
 use Rattle.book.specs.Books.{opened}
 use Rattle.book.specs.History.{Call, Grant, Remove, Confirm, Show, GrantAnswered, RemoveAnswered, ConfirmAnswered, ShowAnswered, event}
@@ -39,8 +33,8 @@ line2 chain match pair used ceiling = record { chain = chain; matched = match; p
 -- whatever meets the promise of plan on a list, with a table long enough, gives these counts, and Right holds of the table before and after
 abbrev pub PlansTo : ℕ → ℕ → List ℕ → Summary → (List ℕ → List ℕ → Type 0) → Type 0
 PlansTo n w ends counts Right =
-    (before after : List ℕ) (result : PlanAnswer) → length (requests_of ends) ≤ length before → PlanPromise n w ends before after result
-    → (result ≡ Planned counts) × Right before after
+    (before after : List ℕ) (result : Result Summary Refusal) → length (requests_of ends) ≤ length before → PlanPromise n w ends before after result
+    → (result ≡ Ok counts) × Right before after
 
 -- and writes these fates, and nothing behind them
 abbrev pub Plans : ℕ → ℕ → List ℕ → Summary → List Fate → Type 0
@@ -116,18 +110,18 @@ removed_t7 = Remove 1 ∷ Grant 1 3 0 0 desk ∷ Grant 2 3 0 0 desk ∷ Grant 0 
 pub record T7 : Type 0 where
   pub answers : history (opened 4 1).book
       (Show 4 desk ∷ Show 1 desk ∷ Grant 0 1 0 0 desk ∷ Grant 0 2 1 0 desk ∷ Confirm 1 ∷ removed_t7)
-      ≡ ShowAnswered 4 desk (show.Refused SerialNeverGiven)
-      ∷ ShowAnswered 1 desk (show.Refused SerialRemoved)
-      ∷ GrantAnswered 0 1 0 0 desk (grant.Granted 3)
-      ∷ GrantAnswered 0 2 1 0 desk (grant.Refused ColourHeld)
-      ∷ ConfirmAnswered 1 confirm.Confirmed
-      ∷ RemoveAnswered 1 remove.Removed
-      ∷ GrantAnswered 1 3 0 0 desk (grant.Refused ColourHeld)
-      ∷ GrantAnswered 2 3 0 0 desk (grant.Granted 2)
-      ∷ GrantAnswered 0 2 0 0 desk (grant.Granted 1)
+      ≡ ShowAnswered 4 desk (Err SerialNeverGiven)
+      ∷ ShowAnswered 1 desk (Err SerialRemoved)
+      ∷ GrantAnswered 0 1 0 0 desk (Ok 3)
+      ∷ GrantAnswered 0 2 1 0 desk (Err ColourHeld)
+      ∷ ConfirmAnswered 1 (Ok tt)
+      ∷ RemoveAnswered 1 (Ok tt)
+      ∷ GrantAnswered 1 3 0 0 desk (Err ColourHeld)
+      ∷ GrantAnswered 2 3 0 0 desk (Ok 2)
+      ∷ GrantAnswered 0 2 0 0 desk (Ok 1)
       ∷ []
   pub unconfirmed : event (run (opened 4 1).book removed_t7) (Grant 0 1 0 0 desk)
-      ≡ GrantAnswered 0 1 0 0 desk (grant.Refused ColourHeld)
+      ≡ GrantAnswered 0 1 0 0 desk (Err ColourHeld)
   pub colour_is_held : number_of ColourHeld ≡ 11
   pub was_never_given : number_of SerialNeverGiven ≡ 14
   pub gone : number_of SerialRemoved ≡ 15
@@ -146,10 +140,10 @@ pub record T9 : Type 0 where
 
 -- T10 "T4's list with numbers 1, 1: refused 8, requests 0 and 1; with 1, 0: passes, 1 served", and what the check prints
 pub record T10 : Type 0 where
-  pub refused : check_answer 4 1 ends_t4 (1 ∷ 1 ∷ []) ≡ Refused (Conflict 0 1)
+  pub refused : check_answer 4 1 ends_t4 (1 ∷ 1 ∷ []) ≡ Err (Conflict 0 1)
   pub refusal_number : number_of (Conflict 0 1) ≡ 8
   pub refusal_requests : carried_by (Conflict 0 1) ≡ Two 0 1
-  pub passes : check_answer 4 1 ends_t4 (1 ∷ 0 ∷ []) ≡ Passed 1
+  pub passes : check_answer 4 1 ends_t4 (1 ∷ 0 ∷ []) ≡ Ok 1
   pub line_of_refusal : line_for (bytes "4 1 2\n0 2\n1 3\n1\n1\n") ≡ bytes "refused 8 0 1\n"
   pub passing_line : line_for (bytes "4 1 2\n0 2\n1 3\n1\n0\n") ≡ bytes "served 1\n"
 

@@ -7,6 +7,8 @@ use mathlib.Core.List.{List, [], ◌∷◌, map}
 use native.Mathlib.Nat.{not-suc-le-zero, le_of_suc-le-suc}
 use native.Mathlib.Omega.{arith}
 use lib.ListN.{length, get_or, replicate, length-replicate, length-map}
+use Rattle.std.proofs.lemmas.Bool.{cases_lt}
+use Rattle.std.specs.Prelude.{Some, None}
 use Rattle.ring.specs.declared.requests.Request.{Request}
 use Rattle.ring.specs.declared.ways.Way.{Way}
 use Rattle.ring.specs.declared.ways.Way.TheVariants.{Plain, Seam}
@@ -18,11 +20,9 @@ use Rattle.ring.proofs.Cases.{impossible}
 use Rattle.ring.proofs.Counting.{sum}
 use Rattle.ring.proofs.PlanLaws.{served_count_lem, served_in}
 use Rattle.ring.proofs.WayLaws.{seam_uses_last, plain_avoids_last}
-use Rattle.chain.specs.declared.rule.Pick.TheVariants.{Colour, Nothing}
 use Rattle.chain.specs.Order.{order}
 use Rattle.chain.specs.ChainPart.{chain_part}
 use Rattle.chain.specs.Promises.{ChainIsOptimal}
-use Rattle.chain.proofs.Basics.{lt_or_le}
 use Rattle.chain.proofs.PlainLinks.{plain_apart, apart_plain}
 use Rattle.chain.proofs.Intervals.{interval, Sorted, count, Colouring, picks, BestColouring}
 use Rattle.chain.proofs.IntervalsFeasible.{coloured_in, best_fit_is_optimal}
@@ -40,7 +40,7 @@ way_of : Fate → Way
 way_of Blocked = Plain
 way_of (Served u c) = u
 
-served_way : (f : Fate) (c : ℕ) → colour_of f ≡ Colour c → f ≡ Served (way_of f) c
+served_way : (f : Fate) (c : ℕ) → colour_of f ≡ Some c → f ≡ Served (way_of f) c
 unfolding way_of
 served_way Blocked c e = let z : ◌≡◌ {A = ℕ} 0 1 = cc in absurd (omega arith)
 served_way (Served u d) c e = cc
@@ -67,7 +67,7 @@ module _ (n w : ℕ) (R : List Request) (valid : ValidRequests n R) where
       ⊎_elim
       (λ l. omega (arith, (by j k l hk).tie (ap (λ (i : ℕ). (request R i).b) e)))
       (λ l. omega (arith, n, (by k j (omega (arith, n)) hj).tie (ap (λ (i : ℕ). (request R i).b) (sym e))))
-      (lt_or_le j k)
+      (cases_lt j k)
 
   finish_at : (k : ℕ) → k < length numbers → interval (along R numbers) k ≡ interval_of R (get_or numbers k 0)
   finish_at k h = at_map (interval_of R) numbers k 0 _ h
@@ -96,15 +96,15 @@ module _ (n w : ℕ) (R : List Request) (valid : ValidRequests n R) where
   goes_plain F each off i c Seam e =
       impossible (sym (seam_uses_last n (request R i) (valid.nodes i (omega (arith, served_in F i c Seam e)))) ∙ off i c Seam e)
 
-  place_in : (F : List Fate) (k c : ℕ) → get_or (map (pick_by F) numbers) k Nothing ≡ Colour c → k < length numbers
+  place_in : (F : List Fate) (k c : ℕ) → get_or (map (pick_by F) numbers) k None ≡ Some c → k < length numbers
   place_in F k c e = omega (arith, coloured_in (map (pick_by F) numbers) k c e, length-map numbers (pick_by F))
 
-  plain_at : (F : List Fate) → length F ≡ length R → KeepsOff (n - 1) R F → (k c : ℕ) → get_or (map (pick_by F) numbers) k Nothing ≡ Colour c
+  plain_at : (F : List Fate) → length F ≡ length R → KeepsOff (n - 1) R F → (k c : ℕ) → get_or (map (pick_by F) numbers) k None ≡ Some c
       → fate F (get_or numbers k 0) ≡ Served Plain c
   unfolding pick_by
   plain_at F each off k c e =
       let i = get_or numbers k 0 in
-      let at : colour_of (fate F i) ≡ Colour c = sym (at_map (pick_by F) numbers k 0 Nothing (place_in F k c e)) ∙ e in
+      let at : colour_of (fate F i) ≡ Some c = sym (at_map (pick_by F) numbers k 0 None (place_in F k c e)) ∙ e in
       let by = served_way (fate F i) c at in
       let plain = goes_plain F each off i c (way_of (fate F i)) by in
       by ∙ ap (λ (u : Way). Served u c) plain

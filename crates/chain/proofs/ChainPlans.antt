@@ -7,6 +7,8 @@ use native.Mathlib.Decide.{ℕ_discrete}
 use native.Mathlib.Omega.{arith}
 use lib.ListN.{length, get_or, set, replicate, length-set}
 use lib.Seq.{get_or-set_same, get_or-set_other, set_out}
+use Rattle.std.proofs.lemmas.Bool.{cases_lt}
+use Rattle.std.specs.Prelude.{Option, Some, None}
 use Rattle.ring.specs.declared.requests.Request.{Request}
 use Rattle.ring.specs.declared.ways.Way.{Way}
 use Rattle.ring.specs.declared.ways.Way.TheVariants.{Plain}
@@ -16,10 +18,7 @@ use Rattle.ring.specs.Requests.{request, ValidRequests}
 use Rattle.ring.specs.Plans.{fate}
 use Rattle.ring.proofs.Counting.{bit}
 use Rattle.ring.proofs.PlanLaws.{served?}
-use Rattle.chain.specs.declared.rule.Pick.{Pick}
-use Rattle.chain.specs.declared.rule.Pick.TheVariants.{Colour, Nothing}
 use Rattle.chain.specs.ChainPart.{plain_fate, pick_for, latest_after, chain_from}
-use Rattle.chain.proofs.Basics.{lt_or_le}
 use Rattle.chain.proofs.Intervals.{Interval, Sorted, got, count, picks}
 use Rattle.chain.proofs.Orders.{Follows, follows_at, sum_of}
 
@@ -31,11 +30,11 @@ abbrev pub along : List Request → List ℕ → List Interval
 along R l = map (interval_of R) l
 
 -- the colour of a fate, and of a plan's fate for request i
-abbrev pub colour_of : Fate → Pick
-colour_of Blocked = Nothing
-colour_of (Served way c) = Colour c
+abbrev pub colour_of : Fate → Option ℕ
+colour_of Blocked = None
+colour_of (Served way c) = Some c
 
-unfoldable pub pick_by : List Fate → ℕ → Pick
+unfoldable pub pick_by : List Fate → ℕ → Option ℕ
 pick_by F i = colour_of (fate F i)
 
 -- 1 if the plan serves request i
@@ -77,9 +76,9 @@ kept R (i ∷ l) latest F j h =
     kept R l (latest_after R i latest) (set F i (plain_fate (pick_for R i latest))) j (λ k b. h (suc k) (omega arith))
     ∙ get_or-set_other F i j (plain_fate (pick_for R i latest)) Blocked (λ q. h 0 (omega arith) (sym q))
 
-colour_plain : (p : Pick) → colour_of (plain_fate p) ≡ p
-colour_plain (Colour c) = refl
-colour_plain Nothing = refl
+colour_plain : (p : Option ℕ) → colour_of (plain_fate p) ≡ p
+colour_plain (Some c) = refl
+colour_plain None = refl
 
 -- along the numbers taken, the run's colours are the rule's picks
 pub chain_picks : (R : List Request) (e i : ℕ) (l latest : List ℕ) (F : List Fate) → length F ≡ length R → Follows R e i l
@@ -100,19 +99,19 @@ chain_picks R e i (j ∷ l) latest F h f =
 pub record TakenAt (R : List Request) (l latest : List ℕ) (i c : ℕ) : Type 0 where
   pub place : ℕ
   pub here : get_or l place 0 ≡ i
-  pub picked : get_or (picks (along R l) latest) place Nothing ≡ Colour c
+  pub picked : get_or (picks (along R l) latest) place None ≡ Some c
 
-plain_served : (p : Pick) (u : Way) (c : ℕ) → plain_fate p ≡ Served u c → (p ≡ Colour c) × (u ≡ Plain)
-plain_served (Colour d) u c e = (cc, cc)
-plain_served Nothing u c e = let z : ◌≡◌ {A = ℕ} 0 1 = cc in absurd (omega arith)
+plain_served : (p : Option ℕ) (u : Way) (c : ℕ) → plain_fate p ≡ Served u c → (p ≡ Some c) × (u ≡ Plain)
+plain_served (Some d) u c e = (cc, cc)
+plain_served None u c e = let z : ◌≡◌ {A = ℕ} 0 1 = cc in absurd (omega arith)
 
 -- a request is served as before, or because it was taken
 pub chain_gives : (R : List Request) (l latest : List ℕ) (F : List Fate) (i c : ℕ) (u : Way) → fate (chain_from R l latest F) i ≡ Served u c
     → (fate F i ≡ Served u c) ⊎ ((u ≡ Plain) × TakenAt R l latest i c)
 chain_gives R [] latest F i c u e = inl e
-chain_gives R (j ∷ l) latest F i c u e = go (chain_gives R l (latest_after R j latest) F' i c u e) (ℕ_discrete i j) (lt_or_le j (length F))
+chain_gives R (j ∷ l) latest F i c u e = go (chain_gives R l (latest_after R j latest) F' i c u e) (ℕ_discrete i j) (cases_lt j (length F))
   where
-    p : Pick
+    p : Option ℕ
     p = pick_for R j latest
 
     F' : List Fate

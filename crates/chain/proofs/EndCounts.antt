@@ -9,7 +9,7 @@ use native.Mathlib.Omega.{arith}
 use lib.ListN.{length, get_or, set, replicate}
 use lib.Dec.{ltb}
 use borrow.Author.Tests.{le-ltb, lt-ltb}
-use Rattle.chain.proofs.Basics.{lt_or_le}
+use Rattle.std.proofs.lemmas.Bool.{cases_lt}
 
 -- 1 where the end is above x
 pub above : ℕ → ℕ → ℕ
@@ -24,11 +24,11 @@ unfolding above
 above_zero end x h = simp (le-ltb x end h)
 
 pub above_le : (end x : ℕ) → above end x ≤ 1
-above_le end x = ⊎_elim (λ h. omega (arith, above_one end x h)) (λ h. omega (arith, above_zero end x h)) (lt_or_le x end)
+above_le end x = ⊎_elim (λ h. omega (arith, above_one end x h)) (λ h. omega (arith, above_zero end x h)) (cases_lt x end)
 
 above_falls : (end x y : ℕ) → x ≤ y → above end y ≤ above end x
 above_falls end x y l =
-    ⊎_elim (λ h. omega (arith, above_one end x h, above_le end y)) (λ h. omega (arith, above_zero end y (omega arith))) (lt_or_le x end)
+    ⊎_elim (λ h. omega (arith, above_one end x h, above_le end y)) (λ h. omega (arith, above_zero end y (omega arith))) (cases_lt x end)
 
 -- how many of the ends are above x
 pub count_above : List ℕ → ℕ → ℕ
@@ -76,7 +76,7 @@ count_gap (v ∷ l) x a h =
     ⊎_elim
     (λ over. omega (arith, above_one v a over, above_le v x))
     (λ fits. omega (arith, above_zero v x (h 0 (omega arith) fits)))
-    (lt_or_le a v)
+    (cases_lt a v)
 
 -- if every end is above a, all count
 pub count_all : (l : List ℕ) (a : ℕ) → ((d : ℕ) → d < length l → a < get_or l d 0) → length l ≤ count_above l a

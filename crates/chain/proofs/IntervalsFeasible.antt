@@ -8,19 +8,18 @@ use native.Mathlib.Decide.{ℕ_discrete}
 use native.Mathlib.Omega.{arith}
 use lib.ListN.{length, get_or, set, replicate, length-set, length-replicate, get_or-replicate}
 use lib.Seq.{get_or-set_same, get_or-set_other}
-use Rattle.chain.specs.declared.rule.Pick.{Pick}
-use Rattle.chain.specs.declared.rule.Pick.TheVariants.{Colour, Nothing}
+use Rattle.std.proofs.lemmas.Bool.{cases_lt}
+use Rattle.std.specs.Prelude.{Option, Some, None}
 use Rattle.chain.specs.Rule.{pick, with_pick, BestPick}
-use Rattle.chain.proofs.Basics.{lt_or_le}
 use Rattle.chain.proofs.Picking.{pick_is_chosen}
 use Rattle.chain.proofs.Intervals.{Interval, interval, Sorted, Colouring, picks, BestFitIsOptimal, Allowed, Replay, done, next}
 use Rattle.chain.proofs.IntervalsOptimal.{length_after, replay_most}
 
-no_colour : (c : ℕ) → Nothing ≡ Colour c → ⊥
+no_colour : (c : ℕ) → None ≡ Some c → ⊥
 no_colour c e = let z : ◌≡◌ {A = ℕ} 0 1 = cc in omega arith
 
 -- a place with a colour is in the list
-pub coloured_in : (P : List Pick) (k c : ℕ) → get_or P k Nothing ≡ Colour c → k < length P
+pub coloured_in : (P : List (Option ℕ)) (k c : ℕ) → get_or P k None ≡ Some c → k < length P
 coloured_in [] k c e = absurd (no_colour c e)
 coloured_in (p ∷ P) zero c e = omega arith
 coloured_in (p ∷ P) (suc k) c e = omega (arith, coloured_in P k c e)
@@ -33,24 +32,24 @@ later m (v ∷ X) (suc k) so h = omega (arith, later v.finish X k so.2 (le_of_su
 -- ---- from a colouring to what is allowed one after the other
 
 -- each colour that is still to come is free when its interval starts
-Free : List ℕ → List Interval → List Pick → Type 0
-Free latest X P = (k c : ℕ) → get_or P k Nothing ≡ Colour c → (c < length latest) × (get_or latest c 0 ≤ (interval X k).start)
+Free : List ℕ → List Interval → List (Option ℕ) → Type 0
+Free latest X P = (k c : ℕ) → get_or P k None ≡ Some c → (c < length latest) × (get_or latest c 0 ≤ (interval X k).start)
 
-Apart : List Interval → List Pick → Type 0
-Apart X P = (j k c : ℕ) → j ≢ k → get_or P j Nothing ≡ Colour c → get_or P k Nothing ≡ Colour c
+Apart : List Interval → List (Option ℕ) → Type 0
+Apart X P = (j k c : ℕ) → j ≢ k → get_or P j None ≡ Some c → get_or P k None ≡ Some c
     → ((interval X j).finish ≤ (interval X k).start) ⊎ ((interval X k).finish ≤ (interval X j).start)
 
-allowed : (latest : List ℕ) (v : Interval) (X : List Interval) (p : Pick) (P : List Pick) → Free latest (v ∷ X) (p ∷ P)
+allowed : (latest : List ℕ) (v : Interval) (X : List Interval) (p : Option ℕ) (P : List (Option ℕ)) → Free latest (v ∷ X) (p ∷ P)
     → Allowed latest v.start p
 unfolding Free
-allowed latest v X (Colour c) P free = free 0 c refl
-allowed latest v X Nothing P free = tt
+allowed latest v X (Some c) P free = free 0 c refl
+allowed latest v X None P free = tt
 
-module _ (m : ℕ) (v : Interval) (X : List Interval) (P : List Pick) (so : Sorted m (v ∷ X)) (each : length P ≡ length X) where
-  still_free_lem : (latest : List ℕ) (p : Pick) → Free latest (v ∷ X) (p ∷ P) → Apart (v ∷ X) (p ∷ P) → Free (with_pick latest p v.finish) X P
+module _ (m : ℕ) (v : Interval) (X : List Interval) (P : List (Option ℕ)) (so : Sorted m (v ∷ X)) (each : length P ≡ length X) where
+  still_free_lem : (latest : List ℕ) (p : Option ℕ) → Free latest (v ∷ X) (p ∷ P) → Apart (v ∷ X) (p ∷ P) → Free (with_pick latest p v.finish) X P
   unfolding Free Apart
-  still_free_lem latest Nothing free apart k c e = free (suc k) c e
-  still_free_lem latest (Colour d) free apart k c e = go (ℕ_discrete c d)
+  still_free_lem latest None free apart k c e = free (suc k) c e
+  still_free_lem latest (Some d) free apart k c e = go (ℕ_discrete c d)
     where
       t : ℕ
       t = v.finish
@@ -61,13 +60,13 @@ module _ (m : ℕ) (v : Interval) (X : List Interval) (P : List Pick) (so : Sort
       go : Dec (c ≡ d) → (c < length (set latest d t)) × (get_or (set latest d t) c 0 ≤ (interval X k).start)
       go (no n) = (rw length-set old.0, rw (get_or-set_other latest d c t 0 n) old.1)
       go (yes q) =
-          let apart-k = apart 0 (suc k) c (λ z. omega arith) (ap Colour (sym q)) e in
+          let apart-k = apart 0 (suc k) c (λ z. omega arith) (ap Some (sym q)) e in
           let here : k < length P = coloured_in P k c e in
           let after-t : t ≤ (interval X k).finish = later t X k so.2 (omega arith) in
           let ends : t ≤ (interval X k).start = ⊎_elim (λ h. h) (λ h. omega arith) apart-k in
           (rw length-set old.0, rw (q, get_or-set_same latest d t 0 (rw q at old.0)) ends)
 
-replay : (m : ℕ) (X : List Interval) (P : List Pick) (latest : List ℕ) → length P ≡ length X → Sorted m X → Free latest X P → Apart X P
+replay : (m : ℕ) (X : List Interval) (P : List (Option ℕ)) (latest : List ℕ) → length P ≡ length X → Sorted m X → Free latest X P → Apart X P
     → Replay X P latest
 unfolding Apart
 replay m [] [] latest each so free apart = done
@@ -79,7 +78,7 @@ replay m (v ∷ X) (p ∷ P) latest each so free apart =
     (replay v.finish X P (with_pick latest p v.finish) each' so.2 (still_free_lem m v X P so each' latest p free apart)
     (λ j k c n. apart (suc j) (suc k) c (λ e. n (suc_inj e))))
 
-colouring_replay : (w : ℕ) (X : List Interval) (P : List Pick) → Sorted 0 X → Colouring w X P → Replay X P (replicate w 0)
+colouring_replay : (w : ℕ) (X : List Interval) (P : List (Option ℕ)) → Sorted 0 X → Colouring w X P → Replay X P (replicate w 0)
 unfolding Free Apart
 colouring_replay w X P so f =
     let free : Free (replicate w 0) X P =
@@ -89,15 +88,15 @@ colouring_replay w X P so f =
 -- ---- from what is allowed one after the other to a colouring
 
 -- an end never falls
-rises : (latest : List ℕ) (s t : ℕ) (p : Pick) (c : ℕ) → Allowed latest s p → s < t → get_or latest c 0 ≤ get_or (with_pick latest p t) c 0
-rises latest s t Nothing c ok lt = omega arith
-rises latest s t (Colour d) c ok lt = go (ℕ_discrete c d)
+rises : (latest : List ℕ) (s t : ℕ) (p : Option ℕ) (c : ℕ) → Allowed latest s p → s < t → get_or latest c 0 ≤ get_or (with_pick latest p t) c 0
+rises latest s t None c ok lt = omega arith
+rises latest s t (Some d) c ok lt = go (ℕ_discrete c d)
   where
     go : Dec (c ≡ d) → get_or latest c 0 ≤ get_or (set latest d t) c 0
     go (no n) = omega (arith, get_or-set_other latest d c t 0 n)
     go (yes q) = rw q (omega (arith, get_or-set_same latest d t 0 ok.0, ok.1))
 
-waits : {X : List Interval} {P : List Pick} {latest : List ℕ} → Replay X P latest → (m k c : ℕ) → Sorted m X → get_or P k Nothing ≡ Colour c
+waits : {X : List Interval} {P : List (Option ℕ)} {latest : List ℕ} → Replay X P latest → (m k c : ℕ) → Sorted m X → get_or P k None ≡ Some c
     → (c < length latest) × (get_or latest c 0 ≤ (interval X k).start)
 waits done m k c so e = absurd (no_colour c e)
 waits (next {v = v} {latest = latest} ok rest) m zero c so e = subst (Allowed latest v.start) e ok
@@ -105,28 +104,28 @@ waits (next {v = v} {p = p} {latest = latest} ok rest) m (suc k) c so e =
     let ih = waits rest v.finish k c so.2 e in
     (omega (arith, length_after latest p v.finish, ih.0), omega (arith, rises latest v.start v.finish p c ok so.1, ih.1))
 
-ordered : {X : List Interval} {P : List Pick} {latest : List ℕ} → Replay X P latest → (m j k c : ℕ) → Sorted m X → j < k
-    → get_or P j Nothing ≡ Colour c → get_or P k Nothing ≡ Colour c → (interval X j).finish ≤ (interval X k).start
+ordered : {X : List Interval} {P : List (Option ℕ)} {latest : List ℕ} → Replay X P latest → (m j k c : ℕ) → Sorted m X → j < k
+    → get_or P j None ≡ Some c → get_or P k None ≡ Some c → (interval X j).finish ≤ (interval X k).start
 ordered done m j k c so l ej ek = absurd (no_colour c ej)
 ordered (next ok rest) m j zero c so l ej ek = absurd (not-suc-le-zero l)
 ordered (next {v = v} {p = p} {latest = latest} ok rest) m zero (suc k) c so l ej ek =
     let t = v.finish in
     let free = (waits rest t k c so.2 ek).1 in
     let ok' = subst (Allowed latest v.start) ej ok in
-    omega (arith, ap (λ (q : Pick). get_or (with_pick latest q t) c 0) ej, get_or-set_same latest c t 0 ok'.0, free)
+    omega (arith, ap (λ (q : Option ℕ). get_or (with_pick latest q t) c 0) ej, get_or-set_same latest c t 0 ok'.0, free)
 ordered (next {v = v} ok rest) m (suc j) (suc k) c so l ej ek = ordered rest v.finish j k c so.2 (le_of_suc-le-suc l) ej ek
 
-sized : {X : List Interval} {P : List Pick} {latest : List ℕ} → Replay X P latest → length P ≡ length X
+sized : {X : List Interval} {P : List (Option ℕ)} {latest : List ℕ} → Replay X P latest → length P ≡ length X
 sized done = refl
 sized (next ok rest) = ap suc (sized rest)
 
-replay_colouring : (w : ℕ) (X : List Interval) (P : List Pick) → Sorted 0 X → Replay X P (replicate w 0) → Colouring w X P
+replay_colouring : (w : ℕ) (X : List Interval) (P : List (Option ℕ)) → Sorted 0 X → Replay X P (replicate w 0) → Colouring w X P
 replay_colouring w X P so re =
     record {
       each = sized re;
       colours = λ k c e. rw length-replicate at (waits re 0 k c so e).0;
       apart = λ j k c n ej ek.
-          ⊎_elim (λ l. inl (ordered re 0 j k c so l ej ek)) (λ l. inr (ordered re 0 k j c so (omega arith) ek ej)) (lt_or_le j k);
+          ⊎_elim (λ l. inl (ordered re 0 j k c so l ej ek)) (λ l. inr (ordered re 0 k j c so (omega arith) ek ej)) (cases_lt j k);
     }
 
 -- ---- the theorem
@@ -134,9 +133,9 @@ replay_colouring w X P so re =
 pick_allowed : (latest : List ℕ) (a : ℕ) → Allowed latest a (pick latest a)
 pick_allowed latest a = go (pick latest a) (pick_is_chosen latest a)
   where
-    go : (p : Pick) → BestPick latest a p → Allowed latest a p
-    go (Colour c) h = (h.inside, h.fits)
-    go Nothing h = tt
+    go : (p : Option ℕ) → BestPick latest a p → Allowed latest a p
+    go (Some c) h = (h.inside, h.fits)
+    go None h = tt
 
 picks_replay : (X : List Interval) (latest : List ℕ) → Replay X (picks X latest) latest
 picks_replay [] latest = done

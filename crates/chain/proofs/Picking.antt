@@ -6,14 +6,11 @@ use mathlib.Core.List.{List, [], ◌∷◌}
 use mathlib.Core.Bool.{cond}
 use native.Mathlib.Nat.{not-suc-le-zero, le_of_suc-le-suc}
 use native.Mathlib.Omega.{arith}
-use lib.ListN.{length, get_or, take}
-use lib.Seq.{length-take-le}
+use lib.ListN.{length, get_or}
 use lib.Dec.{ltb}
 use borrow.Author.Tests.{le-leb, lt-leb, le-ltb, lt-ltb}
-use Rattle.chain.specs.declared.rule.Pick.{Pick}
-use Rattle.chain.specs.declared.rule.Pick.TheVariants.{Colour, Nothing}
-use Rattle.chain.specs.Rule.{rank, best_rank, best_colour, choose, pick, BestFit, BestPick, PickIsBest, Below}
-use Rattle.chain.proofs.Basics.{lt_or_le}
+use Rattle.std.proofs.lemmas.Bool.{cases_lt}
+use Rattle.chain.specs.Rule.{rank, best_rank, best_colour, choose, pick, BestFit, BestPick, PickIsBest}
 
 rank_fits : (end a : ℕ) → end ≤ a → rank end a ≡ end + 1
 rank_fits end a h = simp (le-leb end a h)
@@ -62,7 +59,7 @@ best_hit : (latest : List ℕ) (a top c at : ℕ)
     → ((best_rank latest a top ≡ top) × (best_colour latest a top c at ≡ at))
     ⊎ Hit latest a top c (best_colour latest a top c at) (best_rank latest a top)
 best_hit [] a top c at = inl (refl, refl)
-best_hit (end ∷ latest) a top c at = go (lt_or_le top (rank end a)) (lt_or_le a end) (best_hit latest a m (c + 1) d)
+best_hit (end ∷ latest) a top c at = go (cases_lt top (rank end a)) (cases_lt a end) (best_hit latest a m (c + 1) d)
   where
     m : ℕ
     m = max top (rank end a)
@@ -106,7 +103,7 @@ pick_is_chosen latest a = go (best_rank latest a 0) (best_colour latest a 0 0 0)
         → BestPick latest a (choose t r)
     go zero r et er h = λ d l.
         ⊎_elim (λ over. over) (λ fits. omega (arith, best_most latest a 0 d l, rank_fits (get_or latest d 0) a fits))
-        (lt_or_le a (get_or latest d 0))
+        (cases_lt a (get_or latest d 0))
     go (suc t) r et er (inl h) = absurd (omega arith)
     go (suc t) r et er (inr h) =
         let same : h.k ≡ r = omega arith in
@@ -117,19 +114,3 @@ pick_is_chosen latest a = go (best_rank latest a 0) (best_colour latest a 0 0 0)
           greatest = λ d l fits. omega (arith, best_most latest a 0 d l, rank_fits (get_or latest d 0) a fits);
           lowest = λ d l fits. omega (arith, h.first d l, rank_fits (get_or latest d 0) a fits);
         })
-
--- a picked colour is one of the colours
-pub pick_below : (latest : List ℕ) (a : ℕ) → Below (pick latest a) (length latest)
-pick_below latest a = go (pick latest a) (pick_is_chosen latest a)
-  where
-    go : (p : Pick) → BestPick latest a p → Below p (length latest)
-    go (Colour c) h = h.inside
-    go Nothing h = tt
-
--- and below w, where the latest ends are the first w of a longer list
-pub pick_in : (latest : List ℕ) (w a : ℕ) → w ≤ length latest → Below (pick (take w latest) a) w
-pick_in latest w a h = subst (λ (n : ℕ). Below (pick (take w latest) a) n) (length-take-le w latest h) (pick_below (take w latest) a)
-
-pub below_le : (p : Pick) (m n : ℕ) → m ≤ n → Below p m → Below p n
-below_le (Colour c) m n h b = omega arith
-below_le Nothing m n h b = tt

@@ -4,12 +4,12 @@ use mathlib.Core.Path.{◌≡◌, sym, ◌∙◌}
 use mathlib.Core.Logic.{◌⊎◌, inl, inr, ⊎_elim}
 use mathlib.Core.Bool.{true, false}
 use native.Mathlib.Omega.{arith}
+use Rattle.std.proofs.lemmas.Bool.{cases_lt}
 use Rattle.ring.specs.declared.requests.Request.{Request}
 use Rattle.ring.specs.declared.ways.Way.TheVariants.{Plain}
 use Rattle.ring.specs.Ways.{uses}
 use Rattle.ring.proofs.Cases.{impossible}
 use Rattle.ring.proofs.WayLaws.{plain_uses, plain_used, plain_avoids_before, plain_avoids_behind}
-use Rattle.chain.proofs.Basics.{lt_or_le}
 
 -- two plain ways share no link if one ends where the other starts, or before
 pub plain_apart : (r s : Request) → (r.b ≤ s.a) ⊎ (s.b ≤ r.a) → (link : ℕ) → uses Plain r link ≡ true → uses Plain s link ≡ false
@@ -20,7 +20,7 @@ plain_apart r s h link on =
 -- and only so: else the larger of the starts is a common link
 pub apart_plain : (r s : Request) → r.a < r.b → s.a < s.b
     → (uses Plain r (max r.a s.a) ≡ true → uses Plain s (max r.a s.a) ≡ false) → (r.b ≤ s.a) ⊎ (s.b ≤ r.a)
-apart_plain r s hr hs h = go (lt_or_le s.a r.b) (lt_or_le r.a s.b)
+apart_plain r s hr hs h = go (cases_lt s.a r.b) (cases_lt r.a s.b)
   where
     link : ℕ
     link = max r.a s.a

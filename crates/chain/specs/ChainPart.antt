@@ -1,22 +1,20 @@
 -- The chain part: the run of the rule over the order.
-use Rattle.std.specs.Prelude.{ℕ, List, [], ◌∷◌, length, set, replicate}
+use Rattle.std.specs.Prelude.{Option, Some, None, ℕ, List, [], ◌∷◌, length, set, replicate}
 use Rattle.ring.specs.declared.requests.Request.{Request}
 use Rattle.ring.specs.declared.ways.Way.TheVariants.{Plain}
 use Rattle.ring.specs.declared.fates.Fate.{Fate}
 use Rattle.ring.specs.declared.fates.Fate.TheVariants.{Blocked, Served}
 use Rattle.ring.specs.Requests.{request}
-use Rattle.chain.specs.declared.rule.Pick.{Pick}
-use Rattle.chain.specs.declared.rule.Pick.TheVariants.{Colour, Nothing}
 use Rattle.chain.specs.Order.{order}
 use Rattle.chain.specs.Rule.{pick, with_pick}
 
 -- "All requests go the plain way." "If there is none, the request is blocked."
-abbrev pub plain_fate : Pick → Fate
-plain_fate (Colour c) = Served Plain c
-plain_fate Nothing = Blocked
+abbrev pub plain_fate : Option ℕ → Fate
+plain_fate (Some c) = Served Plain c
+plain_fate None = Blocked
 
 -- the pick of request i of R
-abbrev pub pick_for : List Request → ℕ → List ℕ → Pick
+abbrev pub pick_for : List Request → ℕ → List ℕ → Option ℕ
 pick_for R i latest = pick latest (request R i).a
 
 -- the latest ends after request i of R

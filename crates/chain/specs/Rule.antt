@@ -1,7 +1,5 @@
 -- The colour that a request gets from the colours' latest ends.
-use Rattle.std.specs.Prelude.{ℕ, zero, suc, ◌+◌, ◌≤◌, ◌<◌, max, List, [], ◌∷◌, cond, length, get_or, set, leb, ltb}
-use Rattle.chain.specs.declared.rule.Pick.{Pick}
-use Rattle.chain.specs.declared.rule.Pick.TheVariants.{Colour, Nothing}
+use Rattle.std.specs.Prelude.{Option, Some, None, ℕ, zero, suc, ◌+◌, ◌≤◌, ◌<◌, max, List, [], ◌∷◌, cond, length, get_or, set, leb, ltb}
 
 -- 0 for a latest end above a, else one more than the end: the greater the better
 abbrev pub rank : ℕ → ℕ → ℕ
@@ -18,18 +16,18 @@ best_colour [] a top c at = at
 best_colour (end ∷ latest) a top c at = best_colour latest a (max top (rank end a)) (c + 1) (cond (ltb top (rank end a)) c at)
 
 -- no colour where the best rank is 0
-abbrev pub choose : ℕ → ℕ → Pick
-choose zero c = Nothing
-choose (suc top) c = Colour c
+abbrev pub choose : ℕ → ℕ → Option ℕ
+choose zero c = None
+choose (suc top) c = Some c
 
 -- "the colour whose latest end is greatest among those not above a, the lowest colour on a tie"
-unfoldable pub pick : List ℕ → ℕ → Pick
+unfoldable pub pick : List ℕ → ℕ → Option ℕ
 pick latest a = choose (best_rank latest a 0) (best_colour latest a 0 0 0)
 
 -- "that colour's latest end becomes b"
-abbrev pub with_pick : List ℕ → Pick → ℕ → List ℕ
-with_pick latest (Colour c) b = set latest c b
-with_pick latest Nothing b = latest
+abbrev pub with_pick : List ℕ → Option ℕ → ℕ → List ℕ
+with_pick latest (Some c) b = set latest c b
+with_pick latest None b = latest
 
 -- the sentence as a promise: c is a colour whose latest end is not above a, the greatest such, and the lowest colour with it
 pub record BestFit (latest : List ℕ) (a c : ℕ) : Type 0 where
@@ -43,15 +41,15 @@ abbrev pub NoFit : List ℕ → ℕ → Type 0
 NoFit latest a = (d : ℕ) → d < length latest → a < get_or latest d 0
 
 -- what the rule asks of a pick
-abbrev pub BestPick : List ℕ → ℕ → Pick → Type 0
-BestPick latest a (Colour c) = BestFit latest a c
-BestPick latest a Nothing = NoFit latest a
+abbrev pub BestPick : List ℕ → ℕ → Option ℕ → Type 0
+BestPick latest a (Some c) = BestFit latest a c
+BestPick latest a None = NoFit latest a
 
 -- the promise that the rule's pick is that
 abbrev pub PickIsBest : Type 0
 PickIsBest = (latest : List ℕ) (a : ℕ) → BestPick latest a (pick latest a)
 
 -- the pick's colour, if there is one, is below w
-abbrev pub Below : Pick → ℕ → Type 0
-Below (Colour c) w = c < w
-Below Nothing w = Unit {0}
+abbrev pub Below : Option ℕ → ℕ → Type 0
+Below (Some c) w = c < w
+Below None w = Unit {0}

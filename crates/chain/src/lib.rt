@@ -6,4 +6,3 @@ pub mod colouring;
 pub mod rule;
 
 pub use colouring::colour;
-pub use rule::Pick;

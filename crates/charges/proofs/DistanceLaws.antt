@@ -18,11 +18,6 @@ use Rattle.charges.specs.Internal.Distances.{AddedUpTo, AddedUp, up_to, metres_b
 use Rattle.charges.proofs.LengthLaws.{plain_metres, ways_make_ring}
 
 -- one link more
-pub added_up_none : (lengths distances : List ℕ) → 0 < length distances → AddedUpTo 0 lengths (set distances 0 0)
-added_up_none lengths distances h k l =
-    let first : k ≡ 0 = omega arith in
-    rw first (get_or-set_same distances 0 0 0 h)
-
 pub added_up_next : (lengths distances : List ℕ) (i metres : ℕ) → i + 1 < length distances → AddedUpTo i lengths distances
     → metres ≡ total (take (i + 1) lengths) → AddedUpTo (i + 1) lengths (set distances (i + 1) metres)
 added_up_next lengths distances i metres h before e k l = elim (compare k (i + 1)) [

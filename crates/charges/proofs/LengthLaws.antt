@@ -7,31 +7,18 @@ use native.Mathlib.Omega.{arith}
 use native.Mathlib.Numerals.{add-one, unary_clauses}
 use borrow.Author.Tests.{ltb-false}
 use lib.Dec.{ltb}
-use lib.ListN.{length, get_or, take, drop, drop_of_length-le}
+use lib.ListN.{length, get_or, take}
 use lib.Seq.{take-nil}
 use Rattle.ring.specs.declared.requests.Request.{Request}
 use Rattle.ring.specs.declared.ways.Way.{Way}
 use Rattle.ring.specs.declared.ways.Way.TheVariants.{Plain, Seam}
 use Rattle.ring.specs.Ways.{uses}
 use Rattle.ring.proofs.Cases.{less, not_less, compare, impossible}
-use Rattle.ring.proofs.ListLaws.{drop_next}
 use Rattle.ring.proofs.WayLaws.{plain_uses, plain_avoids_before, plain_avoids_behind, seam_other}
 use Rattle.charges.specs.Lengths.{metres_from, metres, some_outside}
 use Rattle.charges.specs.Promises.{total, WaysMakeRing}
 
 -- ---- limits
-
-module _ (least most : ℕ) (xs : List ℕ) (i : ℕ) where
-  pub outside_found : i < length xs → (ltb (get_or xs i 0) least || ltb most (get_or xs i 0)) ≡ true
-      → some_outside least most (drop i xs) ≡ true
-  outside_found h e = rw (drop_next xs i 0 h, e) refl
-
-  pub outside_passed : i < length xs → (ltb (get_or xs i 0) least || ltb most (get_or xs i 0)) ≡ false
-      → some_outside least most (drop (i + 1) xs) ≡ some_outside least most (drop i xs)
-  outside_passed h e = rw (drop_next xs i 0 h, e) refl
-
-  pub outside_ended : length xs ≤ i → some_outside least most (drop i xs) ≡ false
-  outside_ended h = rw (drop_of_length-le xs h) refl
 
 neither : (p q r : Bool) → ((p || q) || r) ≡ false → (q ≡ false) × (r ≡ false)
 neither false false r e = (refl, e)

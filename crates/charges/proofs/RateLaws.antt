@@ -1,8 +1,7 @@
 -- The cents for so many metres.
-use Prim.Native.Nat.{ℕ, ◌+◌, ◌*◌, ◌-◌, ◌/◌, ◌≤◌, min}
-use mathlib.Core.Path.{◌≡◌}
+use Prim.Native.Nat.{ℕ, ◌+◌, ◌*◌, ◌/◌, ◌≤◌}
 use native.Mathlib.Omega.{arith}
-use native.Mathlib.Nat.{mul-le-mul, mul-le-mul_left, mul-le-mul_right}
+use native.Mathlib.Nat.{mul-le-mul_left, mul-le-mul_right}
 use Rattle.charges.specs.declared.rates.Rates.{Rates}
 use Rattle.charges.specs.Rates.{in_first, in_second, in_third, thousandths, cents}
 use Rattle.charges.specs.Promises.{EveryMetreOnce, RoundedUp}
@@ -13,20 +12,6 @@ every_metre_once m = omega arith
 pub rounded_up : (rates : Rates) (m : ℕ) → RoundedUp rates m
 unfolding cents
 rounded_up rates m = record { enough = omega arith; least = omega arith }
-
--- what metres cost at any rate of 32 bits
-pub priced_within : (rate metres : ℕ) → rate ≤ 4294967295 → rate * metres ≤ 4294967295 * metres
-priced_within rate metres h = mul-le-mul_right metres h
-
-pub priced_most : (rate metres : ℕ) → rate ≤ 4294967295 → metres ≤ 4294967295 → rate * metres ≤ 18446744065119617025
-priced_most rate metres h k = mul-le-mul h k
-
--- the cents, from the bands
-pub cents_told : (rates : Rates) (m : ℕ) {near upper middle far first second third : ℕ} → near ≡ min m 50000 → upper ≡ min m 200000
-    → middle ≡ upper - 50000 → far ≡ m - 200000 → first ≡ rates.first * near → second ≡ rates.second * middle
-    → third ≡ rates.third * far → (first + second + third + 999) / 1000 ≡ cents rates m
-unfolding cents thousandths
-cents_told rates m a b c d e f g = cc
 
 -- no band of more metres has fewer
 first_rise : (l m : ℕ) → l ≤ m → in_first l ≤ in_first m

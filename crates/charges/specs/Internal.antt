@@ -1,2 +1,3 @@
 -- For contracts inside and for proofs alone: nothing here has to be believed.
 pub mod Distances
+pub mod Tariffs

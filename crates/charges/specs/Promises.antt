@@ -1,15 +1,13 @@
 -- What those who pay rely on.
-use Rattle.std.specs.Prelude.{ℕ, ◌+◌, ◌*◌, ◌≤◌, ◌<◌, ◌≡◌, true, false, ◌&&◌, ◌||◌, List, [], ◌∷◌, length, get_or}
+use Rattle.std.specs.Prelude.{ℕ, ◌+◌, ◌*◌, ◌≤◌, ◌<◌, ◌≡◌, true, false, ◌&&◌, ◌||◌, List, [], ◌∷◌, length, get_or, Ok}
 use Rattle.ring.specs.declared.requests.Request.{Request}
 use Rattle.ring.specs.declared.ways.Way.TheVariants.{Plain, Seam}
-use Rattle.ring.specs.declared.refusals.Verdict.TheVariants.{Allowed}
 use Rattle.ring.specs.Ways.{uses}
 use Rattle.book.specs.declared.circuits.Circuit.{Circuit}
 use Rattle.book.specs.declared.books.Book.{Book}
 use Rattle.book.specs.Circuits.{circuit}
 use Rattle.book.specs.Books.{live_of, Valid}
 use Rattle.charges.specs.declared.rates.Rates.{Rates}
-use Rattle.charges.specs.declared.charges.ChargeAnswer.TheVariants.{Charged}
 use Rattle.charges.specs.Lengths.{metres}
 use Rattle.charges.specs.Rates.{in_first, in_second, in_third, thousandths, cents}
 use Rattle.charges.specs.Charges.{circuit_charge, tariff_verdict, charged, book_charged}
@@ -41,13 +39,13 @@ LongerNeverCheaper = (lengths longer rates : List ℕ) (c : Circuit) → length 
 
 -- a live order pays what the book adds for it: `charge` of its serial answers the charge of its circuit
 abbrev pub OrdersPay : Type 0
-OrdersPay = (b : Book) → Valid b → (lengths rates : List ℕ) → tariff_verdict b.n lengths rates ≡ Allowed
+OrdersPay = (b : Book) → Valid b → (lengths rates : List ℕ) → tariff_verdict b.n lengths rates ≡ Ok tt
     → (i : ℕ) → i < length (live_of b)
-    → charged b (circuit (live_of b) i).serial lengths rates ≡ Charged (circuit_charge lengths rates (circuit (live_of b) i))
+    → charged b (circuit (live_of b) i).serial lengths rates ≡ Ok (circuit_charge lengths rates (circuit (live_of b) i))
 
 -- no order pays more than 255 links of 1,000 km at the greatest rate cost, and no book more than 512 times that: 64 bits have room for both
 pub record GreatestCharge : Type 0 where
-  pub order : (b : Book) → Valid b → (serial : ℕ) (lengths rates : List ℕ) (paid : ℕ) → charged b serial lengths rates ≡ Charged paid
+  pub order : (b : Book) → Valid b → (serial : ℕ) (lengths rates : List ℕ) (paid : ℕ) → charged b serial lengths rates ≡ Ok paid
       → paid ≤ 25500000000
-  pub book : (b : Book) → Valid b → (lengths rates : List ℕ) (paid : ℕ) → book_charged b lengths rates ≡ Charged paid
+  pub book : (b : Book) → Valid b → (lengths rates : List ℕ) (paid : ℕ) → book_charged b lengths rates ≡ Ok paid
       → paid ≤ 512 * 25500000000

@@ -1,8 +1,7 @@
 -- The three rates, the bands of a way, and the cents for its metres.
 use Rattle.std.specs.Prelude.{ℕ, ◌+◌, ◌*◌, ◌-◌, ◌/◌, min, not, ◌||◌, List, eqb, length, get_or}
 use Rattle.ring.specs.declared.refusals.Refusal.TheVariants.{ChargeRates}
-use Rattle.ring.specs.declared.refusals.Verdict.{Verdict}
-use Rattle.ring.specs.Refusals.{refuse_if}
+use Rattle.ring.specs.Refusals.{refuse_if, Verdict}
 use Rattle.charges.specs.declared.rates.Rates.{Rates}
 use Rattle.charges.specs.Lengths.{some_outside}
 

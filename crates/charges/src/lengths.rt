@@ -1,77 +1,52 @@
 // The lengths of the links, and the metres along a way.
-ghost use Rattle.std.specs.Prelude.{◌≡◌, false, min, length, get_or};
-ghost use Rattle.charges.specs.Lengths.{some_outside, lengths_verdict};
+ghost use Rattle.std.specs.Prelude.{◌≡◌, IfOk};
+ghost use Rattle.std.specs.Result.{result_and};
+ghost use Rattle.charges.specs.Lengths.{lengths_verdict};
 ghost use Rattle.charges.specs.Internal.Distances.{AddedUp, up_to, metres_by};
 
-use super::limits::{beyond, some_outside};
-use ring::flags::either;
-use ring::numbers::wide;
-use ring::refusals::{Verdict, refuse_if};
+use super::limits::some_outside;
 use ring::{Refusal, Request, Way};
 
-// 29, for any number of lengths but n, or a length not 1 to 1,000,000.
-pub fn lengths_verdict(n: u16, lengths: &[u32]) -> Verdict
-    ensures { result ≡ lengths_verdict n lengths.now }
-{
-    let outside = some_outside(lengths, 1, 1000000);
-    refuse_if(
-        either(lengths.len() != wide(n), outside),
-        Refusal::LinkLengths,
-    )
-}
+// The metres from node 0 up to each node, so that those of any way are a difference of two. Past the last link all entries are the length
+// of the ring.
+#[derive(Drop)]
+pub struct Distances([u32; 257]);
 
-// The length of a link, and 0 past the last one.
-fn length_at(lengths: &[u32], link: usize) -> u32
-    ensures { result ≡ get_or lengths.now link 0 }
-{
-    if link < lengths.len() {
-        lengths[link]
-    } else {
-        0
+impl Distances {
+    // The distances of the lengths of n links, or 29, for any number of lengths but n, or a length not 1 to 1,000,000.
+    #[tactic(auto, unfolding(crate::specs::Lengths::lengths_verdict))]
+    pub fn new(n: u16, lengths: &[u32]) -> Result<Distances, Refusal>
+        ensures ground { result_and result (Ok tt) ≡ lengths_verdict n lengths.now }
+        ensures given { IfOk result (λ d. AddedUp lengths.now d.0) }
+    {
+        if lengths.len() != usize::from(n) || some_outside(lengths, 1, 1000000) {
+            return Err(Refusal::LinkLengths);
+        }
+        let mut entries = [0u32; 257];
+        let mut metres: u32 = 0;
+        for i in 0..256 {
+            metres += lengths.get(i).copied().unwrap_or(0);
+            entries[i + 1] = metres;
+        }
+        Ok(Distances(entries))
     }
-}
 
-// Puts the metres from node 0 up to each node into its entry, so that those of any way are a difference of two. Past the last link all
-// entries are the length of the ring.
-pub fn add_up(lengths: &[u32], distances: &mut [u32; 257])
-    requires { (some_outside 1 1000000 lengths.now ≡ false) × (length distances.old ≡ 257) }
-    ensures { AddedUp lengths.now distances.new }
-{
-    let mut metres: u32 = 0;
-    let mut i: usize = 0;
-    distances[0] = 0;
-    while i < 256 {
-        metres += length_at(lengths, i);
-        distances[i + 1] = metres;
-        i += 1;
+    // The metres up to a node; one that no ring has gets the last entry.
+    fn up_to(&self, node: u16) -> u32
+        ensures { result ≡ up_to self.now.0 node }
+    {
+        self.0[usize::from(node).min(256)]
     }
-}
 
-// The entry of a node; one that no ring has gets the last entry.
-fn entry_of(node: u16) -> usize
-    ensures { result ≡ min node 256 }
-{
-    if node < 256 { wide(node) } else { 256 }
-}
-
-// The metres up to a node.
-fn metres_to(distances: &[u32; 257], node: u16) -> u32
-    ensures { result ≡ up_to distances.now node }
-{
-    let i = entry_of(node);
-    distances[i]
-}
-
-// The metres along a way.
-pub fn way_metres(distances: &[u32; 257], way: Way, request: Request) -> u32
-    ensures { result ≡ metres_by way request distances.now }
-{
-    let start = metres_to(distances, request.a);
-    let end = metres_to(distances, request.b);
-    let between = beyond(end, start);
-    let others = beyond(metres_to(distances, 256), between);
-    match way {
-        Way::Plain => between,
-        Way::Seam => others,
+    // The metres along a way.
+    #[tactic(auto, unfolding(crate::specs::Internal::Distances::metres_by))]
+    pub fn metres(&self, way: Way, request: Request) -> u32
+        ensures { result ≡ metres_by way request self.now.0 }
+    {
+        let between = self.up_to(request.b).saturating_sub(self.up_to(request.a));
+        match way {
+            Way::Plain => between,
+            Way::Seam => self.up_to(256).saturating_sub(between),
+        }
     }
 }

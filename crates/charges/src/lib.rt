@@ -6,4 +6,4 @@ pub mod lengths;
 pub mod limits;
 pub mod rates;
 
-pub use charges::{ChargeAnswer, book_charge, charge};
+pub use charges::{book_charge, charge};

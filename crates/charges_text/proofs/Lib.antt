@@ -1,4 +1,3 @@
 -- The laws that the functions' proofs cite.
 pub mod ReadLaws
 pub mod LineLaws
-pub mod AnswerLaws

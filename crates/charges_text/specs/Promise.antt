@@ -1,12 +1,10 @@
 -- What the text function of `rings charges` promises.
-use Rattle.std.specs.Prelude.{ℕ, List}
+use Rattle.std.specs.Prelude.{ℕ, List, Result, Ok, Err, ⊤}
+use Rattle.ring.specs.declared.refusals.Refusal.{Refusal}
 use Rattle.ring.specs.declared.refusals.Refusal.TheVariants.{TextForm}
-use Rattle.ring.specs.declared.refusals.Verdict.{Verdict}
-use Rattle.ring.specs.declared.refusals.Verdict.TheVariants as verdict
+use Rattle.ring.specs.Refusals.{Verdict}
 use Rattle.texts.specs.Outputs.{Output}
 use Rattle.book.specs.declared.books.Book.{Book}
-use Rattle.stored.specs.declared.loads.LoadAnswer.{LoadAnswer}
-use Rattle.stored.specs.declared.loads.LoadAnswer.TheVariants as load
 use Rattle.stored.specs.Loading.{loaded_either}
 use Rattle.charges.specs.Charges.{tariff_verdict}
 use Rattle.book_replies.specs.Replies.{refused_text}
@@ -15,13 +13,13 @@ use Rattle.charges_text.specs.Layout.{charges_text}
 
 -- the charges, or "one line with the refusal" of a verdict
 abbrev pub text_unless : Verdict → List ℕ → List ℕ
-text_unless verdict.Allowed text = text
-text_unless (verdict.Refused r) text = refused_text r
+text_unless (Ok allowed) text = text
+text_unless (Err r) text = refused_text r
 
 -- of the book that was loaded, or the refusal of its load; then 29, 30
-abbrev pub text_of : LoadAnswer → Book → List ℕ → List ℕ → List ℕ
-text_of load.Loaded b lengths rates = text_unless (tariff_verdict b.n lengths rates) (charges_text b lengths rates)
-text_of (load.Refused r) b lengths rates = refused_text r
+abbrev pub text_of : Result ⊤ Refusal → Book → List ℕ → List ℕ → List ℕ
+text_of (Ok loaded) b lengths rates = text_unless (tariff_verdict b.n lengths rates) (charges_text b lengths rates)
+text_of (Err r) b lengths rates = refused_text r
 
 -- "21 first", "Then as Load, in either form"
 abbrev pub text_for : List ℕ → Reading → List ℕ

@@ -1,36 +1,39 @@
 // The output of `rings charges` for the bytes of a book's file and a text.
-ghost use Rattle.std.specs.Prelude.{◌≤◌, length};
-ghost use Rattle.texts.specs.Internal.Writing.{Wrote};
-ghost use Rattle.book.specs.Books.{Valid};
-ghost use Rattle.charges.specs.Charges.{tariff_verdict};
-ghost use Rattle.charges_text.specs.Layout.{charges_text};
-ghost use Rattle.charges_text.specs.Promise.{text_unless, ChargesTextPromise};
+ghost use Rattle.std.specs.Prelude.{◌≡◌, ◌+◌, ◌≤◌, length};
+ghost use Rattle.texts.specs.Internal.Writing.{Room, Wrote};
+ghost use Rattle.charges_text.specs.Promise.{output_for, ChargesTextPromise};
+ghost use Rattle.charges_text.specs.Internal.Lines.{text_priced};
 
 use super::layout::put_charges;
-use super::reading::{ReadingAt, read};
+use super::reading::read;
 use book::Book;
 use book_replies::replies::put_refused;
-use charges::charges::tariff_verdict;
-use charges::lengths::add_up;
-use charges::rates::rates_in;
+use charges::charges::Tariff;
 use ring::Refusal;
-use ring::refusals::Verdict;
-use stored::loads::{LoadAnswer, load_either};
+use stored::loads::load_either;
+use texts::writing::Writer;
 
-// What the orders of a book pay, or the line of refusal 29 or 30.
-fn put_answer(out: &mut [u8], book: Book, lengths: &[u32], rates: &[u32]) -> usize
-    requires { (16384 ≤ length out.old) × Valid book }
-    ensures { Wrote out.old 0
-        (text_unless (tariff_verdict book.n lengths.now rates.now)
-        (charges_text book lengths.now rates.now)) out.new result }
+// The book in the file, and the tariff that its orders pay by.
+#[tactic(auto, unfolding(crate::specs::Promise::output_for))]
+fn priced(bytes: &[u8], text: &[u8]) -> Result<(Book, Tariff), Refusal>
+    ensures { text_priced result ≡ output_for bytes.now text.now }
 {
-    let verdict = tariff_verdict(book.n, lengths, rates);
-    if let Verdict::Refused(refusal) = verdict {
-        return put_refused(out, 0, refusal);
+    let mut buffer = [0u32; 4096];
+    let said = read(text, &mut buffer).ok_or(Refusal::TextForm)?;
+    let book = load_either(bytes)?;
+    let tariff = Tariff::new(book.n, said.lengths, &said.rates)?;
+    Ok((book, tariff))
+}
+
+// The output for the bytes of the file and the text.
+fn put_answer(writer: &mut Writer<'_>, bytes: &[u8], text: &[u8])
+    requires { Room 16384 writer.old }
+    ensures { Wrote writer.old (output_for bytes.now text.now) writer.new }
+{
+    match priced(bytes, text) {
+        Ok((book, tariff)) => put_charges(writer, &book, &tariff),
+        Err(refusal) => put_refused(writer, refusal),
     }
-    let mut distances = [0u32; 257];
-    add_up(lengths, &mut distances);
-    put_charges(out, book, rates_in(rates), &distances)
 }
 
 // The output, and its length. A buffer of fewer than 16,384 bytes, which no output needs, gets nothing.
@@ -40,17 +43,7 @@ pub fn answer(bytes: &[u8], text: &[u8], out: &mut [u8]) -> usize
     if out.len() < 16384 {
         return 0;
     }
-    let mut lengths = [0u32; 4096];
-    let reading = read(text, &mut lengths);
-    let ReadingAt::Readable(first, second, third, count) = reading else {
-        return put_refused(out, 0, Refusal::TextForm);
-    };
-    let rates = [first, second, third];
-    let loaded = load_either(bytes);
-    let answer = loaded.answer;
-    let book = loaded.book;
-    match answer {
-        LoadAnswer::Loaded => put_answer(out, book, &lengths[..count], &rates),
-        LoadAnswer::Refused(refusal) => put_refused(out, 0, refusal),
-    }
+    let mut writer = Writer::new(out);
+    put_answer(&mut writer, bytes, text);
+    writer.len()
 }

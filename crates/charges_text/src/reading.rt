@@ -1,65 +1,46 @@
 // The input of `rings charges`: a line of three rates, then a line for each length.
-ghost use Rattle.std.specs.Prelude.{◌≤◌, length};
-ghost use Rattle.charges_text.specs.Internal.Positions.{LengthsRead, ReadingRead};
+ghost use Rattle.std.specs.Prelude.{◌≡◌, ◌≤◌, ◌*◌, length};
+ghost use Rattle.charges_text.specs.Reading.{lengths_of, reading_of};
+ghost use Rattle.charges_text.specs.Internal.Readings.{lengths_read, reading_read};
 
-use texts::fields::{LongAt, long_field};
+use texts::fields::Reader;
 
-// How many lengths were read.
-#[derive(Clone, Copy)]
-pub enum LengthsAt {
-    Unfit,
-    All(usize),
+// What a text says: the three rates and the lengths.
+#[derive(Clone, Copy, Debug)]
+pub struct Reading<'a> {
+    pub rates: [u32; 3],
+    pub lengths: &'a [u32],
 }
 
-// The three rates, and how many lengths were read.
-#[derive(Clone, Copy)]
-pub enum ReadingAt {
-    Unreadable,
-    Readable(u32, u32, u32, usize),
-}
-
-// A line for each length from a position to the end of the text: the lengths go into the buffer.
-fn length_lines(text: &[u8], at: usize, buffer: &mut [u32]) -> LengthsAt
-    requires { (at ≤ length text.now) × (length text.now ≤ 8192) × (4096 ≤ length buffer.old) }
-    ensures { LengthsRead text.now at buffer.new result }
+// A line for each length to the end of the text; the lengths are kept in the buffer.
+fn length_lines<'a>(reader: &mut Reader<'_>, buffer: &'a mut [u32]) -> Option<&'a [u32]>
+    requires { length reader.old ≤ 2 * length buffer.old }
+    ensures { lengths_read result ≡ lengths_of reader.old }
 {
-    let mut next = at;
     let mut count: usize = 0;
-    while next < text.len() {
-        let found = long_field(text, next, b'\n');
-        let LongAt::Found(metres, behind) = found else {
-            return LengthsAt::Unfit;
-        };
-        buffer[count] = metres;
+    while !reader.is_at_end() {
+        buffer[count] = reader.long_field(b'\n')?;
         count += 1;
-        next = behind;
     }
-    LengthsAt::All(count)
+    Some(&buffer[..count])
 }
 
-// The whole text: the rates, with the lengths in the buffer.
-pub fn read(text: &[u8], buffer: &mut [u32]) -> ReadingAt
+// The whole text, whose lengths are kept in the buffer.
+#[tactic(auto, unfolding(crate::specs::Reading::reading_of, crate::specs::Reading::form_of))]
+pub fn read<'a>(text: &[u8], buffer: &'a mut [u32]) -> Option<Reading<'a>>
     requires { 4096 ≤ length buffer.old }
-    ensures { ReadingRead text.now buffer.new result }
+    ensures { reading_read result ≡ reading_of text.now }
 {
     if 8192 < text.len() {
-        return ReadingAt::Unreadable;
+        return None;
     }
-    let one = long_field(text, 0, b' ');
-    let LongAt::Found(first, second_at) = one else {
-        return ReadingAt::Unreadable;
-    };
-    let two = long_field(text, second_at, b' ');
-    let LongAt::Found(second, third_at) = two else {
-        return ReadingAt::Unreadable;
-    };
-    let three = long_field(text, third_at, b'\n');
-    let LongAt::Found(third, next) = three else {
-        return ReadingAt::Unreadable;
-    };
-    let lengths = length_lines(text, next, buffer);
-    let LengthsAt::All(count) = lengths else {
-        return ReadingAt::Unreadable;
-    };
-    ReadingAt::Readable(first, second, third, count)
+    let mut reader = Reader::new(text);
+    let first = reader.long_field(b' ')?;
+    let second = reader.long_field(b' ')?;
+    let third = reader.long_field(b'\n')?;
+    let lengths = length_lines(&mut reader, buffer)?;
+    Some(Reading {
+        rates: [first, second, third],
+        lengths,
+    })
 }

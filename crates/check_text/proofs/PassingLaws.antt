@@ -5,15 +5,14 @@ use native.Mathlib.Omega.{arith}
 use native.Mathlib.Nat.{le_refl}
 use lib.ListN.{length}
 use lib.Seq.{take-take}
-use Rattle.ring.specs.declared.refusals.Verdict.{Verdict}
-use Rattle.ring.specs.declared.refusals.Verdict.TheVariants as verdict
+use Rattle.ring.specs.Refusals.{Verdict}
+use Rattle.std.specs.Prelude.{Ok, Err}
 use Rattle.ring.specs.Requests.{requests_of}
 use Rattle.ring.specs.Plans.{served}
 use Rattle.ring.specs.Admission.{call_verdict}
 use Rattle.ring.proofs.AdmissionLaws.{call_limits, call_allowed}
 use Rattle.ring.proofs.FateLaws.{fates_length}
 use Rattle.planner.specs.Promise.{read_plan}
-use Rattle.checker.specs.declared.CheckAnswer.TheVariants.{Passed}
 use Rattle.checker.specs.Check.{numbers_in, check_answer}
 use Rattle.checker.proofs.DecisionLaws.{checker_decides}
 use Rattle.check_text.specs.Passing.{PlansPass}
@@ -22,12 +21,12 @@ pub plans_pass : PlansPass
 plans_pass n w ends before after counts s = by (call_verdict n w ends (length before)) refl
   where
     by : (v : Verdict) → call_verdict n w ends (length before) ≡ v
-        → check_answer n w ends (numbers_in ends after) ≡ Passed (served (read_plan (requests_of ends) after))
-    by (verdict.Refused ground) q =
+        → check_answer n w ends (numbers_in ends after) ≡ Ok (served (read_plan (requests_of ends) after))
+    by (Err ground) q =
         let told = (s.refused ground q).0 in
         let z : ◌≡◌ {A = ℕ} 0 1 = cc in
         absurd (omega arith)
-    by verdict.Allowed q =
+    by (Ok allowed) q =
         let limits = call_limits n w ends (length before) q in
         let feasible = (s.planned q).demand.feasible in
         let each = feasible.each in

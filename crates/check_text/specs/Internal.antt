@@ -1,2 +1,2 @@
 -- For contracts inside and for proofs alone: nothing here has to be believed.
-pub mod Positions
+pub mod Readings

@@ -1,16 +1,15 @@
 -- What the checking program's text function promises.
-use Rattle.std.specs.Prelude.{ℕ, List}
+use Rattle.std.specs.Prelude.{ℕ, List, Result, Err}
+use Rattle.ring.specs.declared.refusals.Refusal.{Refusal}
 use Rattle.ring.specs.declared.refusals.Refusal.TheVariants.{TextForm}
 use Rattle.texts.specs.Outputs.{Output}
-use Rattle.checker.specs.declared.CheckAnswer.{CheckAnswer}
-use Rattle.checker.specs.declared.CheckAnswer.TheVariants as check
 use Rattle.checker.specs.Check.{check_answer}
 use Rattle.check_text.specs.Reading.{Reading, unreadable, readable, reading_of}
 use Rattle.check_text.specs.Verdict.{verdict_line}
 
 -- "21 first .. Then as Check.": the answer to what a text says
-abbrev pub answer_to : Reading → CheckAnswer
-answer_to unreadable = check.Refused TextForm
+abbrev pub answer_to : Reading → Result ℕ Refusal
+answer_to unreadable = Err TextForm
 answer_to (readable n w ends table) = check_answer n w ends table
 
 -- the line for a text

@@ -1,13 +1,11 @@
 -- The line that the checking program prints, as bytes.
-use Rattle.std.specs.Prelude.{ℕ, List, [], ◌++◌}
+use Rattle.std.specs.Prelude.{ℕ, List, [], ◌++◌, Result, Ok, Err}
 use Rattle.ring.specs.declared.refusals.Refusal.{Refusal}
 use Rattle.ring.specs.declared.refusals.Carried.{Carried}
 use Rattle.ring.specs.declared.refusals.Carried.TheVariants.{None, One, Two}
 use Rattle.ring.specs.Refusals.{number_of, carried_by}
 use Rattle.texts.specs.Bytes.{bytes}
 use Rattle.texts.specs.Layout.{labelled}
-use Rattle.checker.specs.declared.CheckAnswer.{CheckAnswer}
-use Rattle.checker.specs.declared.CheckAnswer.TheVariants as check
 
 -- "the values that the refusal carries, each after one space"
 abbrev pub carried_text : Carried → List ℕ
@@ -25,6 +23,6 @@ unfoldable pub served_line : ℕ → List ℕ
 served_line served = labelled (bytes "served ") served ++ bytes "\n"
 
 -- "It prints one line": that of an answer of the check
-abbrev pub verdict_line : CheckAnswer → List ℕ
-verdict_line (check.Passed served) = served_line served
-verdict_line (check.Refused refusal) = refusal_line refusal
+abbrev pub verdict_line : Result ℕ Refusal → List ℕ
+verdict_line (Ok served) = served_line served
+verdict_line (Err refusal) = refusal_line refusal

@@ -3,22 +3,20 @@ ghost use Rattle.std.specs.Prelude.{◌≡◌};
 ghost use Rattle.check_text.specs.Reading.{reading_of};
 ghost use Rattle.check_text.specs.Promise.{answer_to, CheckTextPromise};
 
-use super::reading::{ReadingAt, read};
+use super::reading::read;
 use super::verdicts::put_verdict;
-use checker::{CheckAnswer, check};
+use checker::check;
 use ring::Refusal;
+use texts::writing::Writer;
 
 // The answer of the check to what a text says.
-fn text_answer(text: &[u8]) -> CheckAnswer
+fn text_answer(text: &[u8]) -> Result<u16, Refusal>
     ensures { result ≡ answer_to (reading_of text.now) }
 {
     let mut ends = [0u16; 8192];
     let mut table = [0u16; 8192];
-    let reading = read(text, &mut ends, &mut table);
-    let ReadingAt::Readable(n, w, count, entries) = reading else {
-        return CheckAnswer::Refused(Refusal::TextForm);
-    };
-    check(n, w, &ends[..count], &table[..entries])
+    let said = read(text, &mut ends, &mut table).ok_or(Refusal::TextForm)?;
+    check(said.n, said.w, said.ends, said.table)
 }
 
 // The line for a text, and its length. A buffer of fewer than 32 bytes, which no line needs, gets nothing.
@@ -28,5 +26,7 @@ pub fn answer(text: &[u8], out: &mut [u8]) -> usize
     if out.len() < 32 {
         return 0;
     }
-    put_verdict(out, text_answer(text))
+    let mut writer = Writer::new(out);
+    put_verdict(&mut writer, text_answer(text));
+    writer.len()
 }

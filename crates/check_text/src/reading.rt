@@ -1,61 +1,54 @@
 // The checking program's input: the planning program's text, followed by m lines of one fate number each.
-ghost use Rattle.std.specs.Prelude.{◌≤◌, length};
-ghost use Rattle.plan_text.specs.Internal.Positions.{LinesFitIn};
-ghost use Rattle.check_text.specs.Internal.Positions.{TableRead, ReadingRead};
+ghost use Rattle.std.specs.Prelude.{◌≡◌, ◌≤◌, ◌+◌, ◌*◌, [], length, take, IfSome};
+ghost use Rattle.plan_text.specs.Internal.Readings.{lines_read};
+ghost use Rattle.check_text.specs.Reading.{numbers_from, reading_of};
+ghost use Rattle.check_text.specs.Internal.Readings.{reading_read};
 
-use plan_text::reading::{HeadingAt, LinesAt, heading, request_lines};
-use texts::fields::{FieldAt, field};
+use plan_text::reading::{Numbers, heading, request_lines};
+use texts::fields::Reader;
 
-// n, w, and how many ends and fate numbers were read.
-#[derive(Clone, Copy)]
-pub enum ReadingAt {
-    Unreadable,
-    Readable(u16, u16, usize, usize),
+// What a text says: n, w, the ends and the table of fate numbers.
+#[derive(Clone, Copy, Debug)]
+pub struct Reading<'a> {
+    pub n: u16,
+    pub w: u16,
+    pub ends: &'a [u16],
+    pub table: &'a [u16],
 }
 
-// m lines of one fate number from a position on: the numbers go into the buffer.
-fn table_lines(text: &[u8], at: usize, m: u16, buffer: &mut [u16]) -> LinesAt
-    requires { LinesFitIn text.now at buffer.old }
-    ensures { TableRead text.now at m buffer.new result }
+// m lines of one fate number: the numbers go into the buffer.
+fn table_lines(reader: &mut Reader<'_>, m: u16, buffer: &mut [u16]) -> Option<()>
+    requires { length reader.old ≤ 2 * length buffer.old }
+    ensures same { lines_read result (take m buffer.new) reader.new ≡ numbers_from [] m reader.old }
+    ensures fits { IfSome result (λ _. 2 * m + length reader.new ≤ length reader.old) }
 {
-    let mut left = m;
-    let mut next = at;
-    let mut count: usize = 0;
-    while 0 < left {
-        let found = field(text, next, b'\n');
-        let FieldAt::Found(number, behind) = found else {
-            return LinesAt::Unfit;
-        };
-        buffer[count] = number;
-        count += 1;
-        next = behind;
-        left -= 1;
+    for i in 0..usize::from(m) {
+        buffer[i] = reader.field(b'\n')?;
     }
-    LinesAt::All(count, next)
+    Some(())
 }
 
-// The whole text: n and w, with the ends in one buffer and the fate numbers in the other.
-pub fn read(text: &[u8], ends: &mut [u16], table: &mut [u16]) -> ReadingAt
+// The whole text, whose ends are kept in one buffer and whose fate numbers in the other.
+#[tactic(auto, unfolding(crate::specs::Reading::reading_of, crate::specs::Reading::form_of))]
+pub fn read<'a>(text: &[u8], ends: &'a mut [u16], table: &'a mut [u16]) -> Option<Reading<'a>>
     requires { (8192 ≤ length ends.old) × (8192 ≤ length table.old) }
-    ensures { ReadingRead text.now ends.new table.new result }
+    ensures { reading_read result ≡ reading_of text.now }
 {
     if 16384 < text.len() {
-        return ReadingAt::Unreadable;
+        return None;
     }
-    let first = heading(text);
-    let HeadingAt::Numbers(n, w, m, next) = first else {
-        return ReadingAt::Unreadable;
-    };
-    let requests = request_lines(text, next, m, ends);
-    let LinesAt::All(count, rest) = requests else {
-        return ReadingAt::Unreadable;
-    };
-    let fates = table_lines(text, rest, m, table);
-    let LinesAt::All(entries, behind) = fates else {
-        return ReadingAt::Unreadable;
-    };
-    if behind < text.len() {
-        return ReadingAt::Unreadable;
+    let mut reader = Reader::new(text);
+    let Numbers { n, w, m } = heading(&mut reader)?;
+    request_lines(&mut reader, m, ends)?;
+    table_lines(&mut reader, m, table)?;
+    if !reader.is_at_end() {
+        return None;
     }
-    ReadingAt::Readable(n, w, count, entries)
+    let entries = usize::from(m);
+    Some(Reading {
+        n,
+        w,
+        ends: &ends[..2 * entries],
+        table: &table[..entries],
+    })
 }

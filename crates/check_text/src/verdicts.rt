@@ -1,55 +1,56 @@
 // The line that the checking program prints.
 ghost use Rattle.std.specs.Prelude.{◌+◌, ◌≤◌, length};
-ghost use Rattle.texts.specs.Internal.Writing.{Wrote};
+ghost use Rattle.texts.specs.Internal.Writing.{Room, Wrote};
 ghost use Rattle.check_text.specs.Verdict.{carried_text, served_line, refusal_line, verdict_line};
 
-use checker::CheckAnswer;
 use ring::Refusal;
-use ring::refusals::{Carried, carried_by, number};
-use texts::words::put_labelled;
-use texts::writing::put_byte;
+use ring::refusals::Carried;
+use texts::writing::Writer;
 
 // The values that a refusal carries, each after a space.
-fn put_carried(out: &mut [u8], at: usize, carried: Carried) -> usize
-    requires { at + 12 ≤ length out.old }
-    ensures { Wrote out.old at (carried_text carried) out.new result }
+#[tactic(auto, using(texts::proofs::WordLaws::labelled_short))]
+fn put_carried(writer: &mut Writer<'_>, carried: Carried)
+    requires { Room 12 writer.old }
+    ensures { Wrote writer.old (carried_text carried) writer.new }
 {
     match carried {
-        Carried::None => at,
-        Carried::One(first) => put_labelled(out, at, b" ", first),
+        Carried::None => {}
+        Carried::One(first) => writer.labelled(b" ", first),
         Carried::Two(first, second) => {
-            let next = put_labelled(out, at, b" ", first);
-            put_labelled(out, next, b" ", second)
+            writer.labelled(b" ", first);
+            writer.labelled(b" ", second);
         }
     }
 }
 
 // The line of a refusal.
-fn put_refusal(out: &mut [u8], ground: Refusal) -> usize
-    requires { 32 ≤ length out.old }
-    ensures { Wrote out.old 0 (refusal_line ground) out.new result }
+#[tactic(auto, using(texts::proofs::WordLaws::labelled_short, crate::proofs::VerdictLaws::carried_short))]
+fn put_refusal(writer: &mut Writer<'_>, refusal: Refusal)
+    requires { Room 32 writer.old }
+    ensures { Wrote writer.old (refusal_line refusal) writer.new }
 {
-    let behind = put_labelled(out, 0, b"refused ", number(ground));
-    let next = put_carried(out, behind, carried_by(ground));
-    put_byte(out, next, b'\n')
+    writer.labelled(b"refused ", refusal.number());
+    put_carried(writer, refusal.carried());
+    writer.byte(b'\n');
 }
 
 // The line of a plan that passes.
-fn put_served(out: &mut [u8], served: u16) -> usize
-    requires { 32 ≤ length out.old }
-    ensures { Wrote out.old 0 (served_line served) out.new result }
+#[tactic(auto, using(texts::proofs::WordLaws::labelled_short))]
+fn put_served(writer: &mut Writer<'_>, served: u16)
+    requires { Room 32 writer.old }
+    ensures { Wrote writer.old (served_line served) writer.new }
 {
-    let next = put_labelled(out, 0, b"served ", served);
-    put_byte(out, next, b'\n')
+    writer.labelled(b"served ", served);
+    writer.byte(b'\n');
 }
 
 // The line of an answer.
-pub fn put_verdict(out: &mut [u8], answer: CheckAnswer) -> usize
-    requires { 32 ≤ length out.old }
-    ensures { Wrote out.old 0 (verdict_line answer) out.new result }
+pub fn put_verdict(writer: &mut Writer<'_>, answer: Result<u16, Refusal>)
+    requires { Room 32 writer.old }
+    ensures { Wrote writer.old (verdict_line answer) writer.new }
 {
     match answer {
-        CheckAnswer::Passed(served) => put_served(out, served),
-        CheckAnswer::Refused(ground) => put_refusal(out, ground),
+        Ok(served) => put_served(writer, served),
+        Err(refusal) => put_refusal(writer, refusal),
     }
 }

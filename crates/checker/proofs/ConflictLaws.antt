@@ -12,7 +12,7 @@ use Rattle.ring.specs.declared.requests.Request.{Request}
 use Rattle.ring.specs.declared.fates.Fate.{Fate}
 use Rattle.ring.specs.declared.fates.Fate.TheVariants.{Blocked, Served}
 use Rattle.ring.specs.declared.refusals.Refusal.TheVariants.{Conflict}
-use Rattle.ring.specs.declared.refusals.Verdict.TheVariants.{Allowed, Refused}
+use Rattle.std.specs.Prelude.{Ok, Err}
 use Rattle.ring.specs.Requests.{requests_of, request, ValidRequests}
 use Rattle.ring.specs.Ways.{share_link}
 use Rattle.ring.specs.Internal.Sharing.{sharing}
@@ -78,7 +78,7 @@ module _ (n : ℕ) (R : List Request) (F : List Fate) (valid : ValidRequests n R
 
 -- 8 of request i, which is blocked or served, by its number
 module _ (share : SharingTest) (ends numbers : List ℕ) (i : ℕ) where
-  pub later_blocked : fate_of (get_or numbers i 0) ≡ Blocked → Allowed ≡ later_verdict share (requests_of ends) (fates_of numbers) i
+  pub later_blocked : fate_of (get_or numbers i 0) ≡ Blocked → (Ok tt) ≡ later_verdict share (requests_of ends) (fates_of numbers) i
   unfolding later_verdict pair_verdict conflicting
   later_blocked e =
       sym (none_first (pair_verdict share (requests_of ends) (fates_of numbers) i) (i + 1) (length (requests_of ends) - (i + 1))
@@ -91,11 +91,11 @@ module _ (share : SharingTest) (ends numbers : List ℕ) (i : ℕ) where
         (request (requests_of ends) j) ≡ t
     test_is = cc (fate_at numbers i, fate_at numbers j)
 
-    pub pair_refused : t ≡ true → pair_verdict share (requests_of ends) (fates_of numbers) i j ≡ Refused (Conflict i j)
+    pub pair_refused : t ≡ true → pair_verdict share (requests_of ends) (fates_of numbers) i j ≡ Err (Conflict i j)
     unfolding pair_verdict
     pair_refused e = cc (test_is)
 
-    pub pair_allowed : t ≡ false → pair_verdict share (requests_of ends) (fates_of numbers) i j ≡ Allowed
+    pub pair_allowed : t ≡ false → pair_verdict share (requests_of ends) (fates_of numbers) i j ≡ (Ok tt)
     unfolding pair_verdict
     pair_allowed e = cc (test_is)
 

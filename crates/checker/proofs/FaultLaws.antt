@@ -11,7 +11,7 @@ use Rattle.ring.specs.declared.requests.Request.{Request}
 use Rattle.ring.specs.declared.fates.Fate.{Fate}
 use Rattle.ring.specs.declared.refusals.Refusal.{Refusal}
 use Rattle.ring.specs.declared.refusals.Refusal.TheVariants.{FateNumber, Conflict}
-use Rattle.ring.specs.declared.refusals.Verdict.TheVariants.{Allowed, Refused}
+use Rattle.std.specs.Prelude.{Ok, Err}
 use Rattle.ring.specs.Requests.{request}
 use Rattle.ring.specs.Ways.{share_link}
 use Rattle.ring.specs.Plans.{fate, fates_of}
@@ -26,11 +26,11 @@ use Rattle.checker.proofs.ConflictLaws.{conflict_clash, one_colour}
 
 -- 7 of one number, read back
 module _ (w : ℕ) (numbers : List ℕ) (i : ℕ) where
-  allowed_within : number_verdict w numbers i ≡ Allowed → get_or numbers i 0 ≤ 2 * w
+  allowed_within : number_verdict w numbers i ≡ (Ok tt) → get_or numbers i 0 ≤ 2 * w
   unfolding number_verdict
   allowed_within e = ltb-false (2 * w) (get_or numbers i 0) (refuse_allowed (ltb (2 * w) (get_or numbers i 0)) (FateNumber i) e)
 
-  refused_above : (r : Refusal) → number_verdict w numbers i ≡ Refused r → (2 * w < get_or numbers i 0) × (r ≡ FateNumber i)
+  refused_above : (r : Refusal) → number_verdict w numbers i ≡ Err r → (2 * w < get_or numbers i 0) × (r ≡ FateNumber i)
   unfolding number_verdict
   refused_above r e =
       let both = refuse_refused (ltb (2 * w) (get_or numbers i 0)) (FateNumber i) r e in
@@ -38,16 +38,16 @@ module _ (w : ℕ) (numbers : List ℕ) (i : ℕ) where
 
 -- 7 is not there exactly if no number is above 2w; if it is, it names the first
 module _ (w : ℕ) (numbers : List ℕ) where
-  pub numbers_within : number_verdicts w numbers ≡ Allowed → (k : ℕ) → k < length numbers → get_or numbers k 0 ≤ 2 * w
+  pub numbers_within : number_verdicts w numbers ≡ (Ok tt) → (k : ℕ) → k < length numbers → get_or numbers k 0 ≤ 2 * w
   unfolding number_verdicts
   numbers_within e k h =
       allowed_within w numbers k (first_none (number_verdict w numbers) 0 (length numbers) e k (omega arith) (omega arith))
 
-  pub within_numbers : ((k : ℕ) → k < length numbers → get_or numbers k 0 ≤ 2 * w) → number_verdicts w numbers ≡ Allowed
+  pub within_numbers : ((k : ℕ) → k < length numbers → get_or numbers k 0 ≤ 2 * w) → number_verdicts w numbers ≡ (Ok tt)
   unfolding number_verdicts
   within_numbers h = none_first (number_verdict w numbers) 0 (length numbers) (λ k l u. number_within w numbers k (h k (omega arith)))
 
-  pub number_fault : (n : ℕ) (R : List Request) (r : Refusal) → number_verdicts w numbers ≡ Refused r → Fault n w R numbers r
+  pub number_fault : (n : ℕ) (R : List Request) (r : Refusal) → number_verdicts w numbers ≡ Err r → Fault n w R numbers r
   unfolding number_verdicts
   number_fault n R r e =
       let found = first_refused (number_verdict w numbers) 0 (length numbers) r e in
@@ -91,18 +91,18 @@ module _ (n : ℕ) (R : List Request) (F : List Fate) (i j : ℕ) where
     found_share n x.first_way (request R i) x.second_way (request R j) x.link x.below x.first_uses x.second_uses,
   )
 
-  allowed_apart : pair_verdict (share_link n) R F i j ≡ Allowed → InConflict n R F i j → ⊥
+  allowed_apart : pair_verdict (share_link n) R F i j ≡ (Ok tt) → InConflict n R F i j → ⊥
   unfolding pair_verdict test
   allowed_apart e x = true≢false (sym (conflict_test x) ∙ refuse_allowed test (Conflict i j) e)
 
-  apart_allowed : i < j → j < length R → (InConflict n R F i j → ⊥) → pair_verdict (share_link n) R F i j ≡ Allowed
+  apart_allowed : i < j → j < length R → (InConflict n R F i j → ⊥) → pair_verdict (share_link n) R F i j ≡ (Ok tt)
   unfolding pair_verdict test
   apart_allowed h k x = elim (is test) [
     | yes e ↦ absurd (x (test_conflict h k e))
     | no e ↦ allowed_refuse test (Conflict i j) e
   ]
 
-  refused_conflict : i < j → j < length R → (r : Refusal) → pair_verdict (share_link n) R F i j ≡ Refused r
+  refused_conflict : i < j → j < length R → (r : Refusal) → pair_verdict (share_link n) R F i j ≡ Err r
       → InConflict n R F i j × (r ≡ Conflict i j)
   unfolding pair_verdict test
   refused_conflict h k r e =
@@ -111,19 +111,19 @@ module _ (n : ℕ) (R : List Request) (F : List Fate) (i j : ℕ) where
 
 -- 8 is not there exactly if no two requests are in conflict
 module _ (n : ℕ) (R : List Request) (F : List Fate) where
-  later_apart : (i : ℕ) → later_verdict (share_link n) R F i ≡ Allowed → (j : ℕ) → InConflict n R F i j → ⊥
+  later_apart : (i : ℕ) → later_verdict (share_link n) R F i ≡ (Ok tt) → (j : ℕ) → InConflict n R F i j → ⊥
   unfolding later_verdict
   later_apart i e j x =
       allowed_apart n R F i j
       (first_none (pair_verdict (share_link n) R F i) (i + 1) (length R - (i + 1)) e j (omega (arith, x.before))
       (omega (arith, x.before, x.listed))) x
 
-  pub pairs_apart : pair_verdicts (share_link n) R F ≡ Allowed → (i j : ℕ) → InConflict n R F i j → ⊥
+  pub pairs_apart : pair_verdicts (share_link n) R F ≡ (Ok tt) → (i j : ℕ) → InConflict n R F i j → ⊥
   unfolding pair_verdicts
   pairs_apart e i j x =
       later_apart i (first_none (later_verdict (share_link n) R F) 0 (length R) e i (omega arith) (omega (arith, x.before, x.listed))) j x
 
-  pub apart_pairs : ((i j : ℕ) → InConflict n R F i j → ⊥) → pair_verdicts (share_link n) R F ≡ Allowed
+  pub apart_pairs : ((i j : ℕ) → InConflict n R F i j → ⊥) → pair_verdicts (share_link n) R F ≡ (Ok tt)
   unfolding pair_verdicts later_verdict
   apart_pairs h =
       none_first (later_verdict (share_link n) R F) 0 (length R) (λ i a b.
@@ -132,7 +132,7 @@ module _ (n : ℕ) (R : List Request) (F : List Fate) where
 
 -- if it is, it names the lowest first, then lowest second request
 module _ (n w : ℕ) (R : List Request) (numbers : List ℕ) where
-  pub conflict_fault : number_verdicts w numbers ≡ Allowed → (r : Refusal) → pair_verdicts (share_link n) R (fates_of numbers) ≡ Refused r
+  pub conflict_fault : number_verdicts w numbers ≡ (Ok tt) → (r : Refusal) → pair_verdicts (share_link n) R (fates_of numbers) ≡ Err r
       → Fault n w R numbers r
   unfolding pair_verdicts later_verdict
   conflict_fault a r e =

@@ -4,39 +4,27 @@ use mathlib.Core.Path.{◌≡◌, refl, sym, ap, ◌∙◌}
 use native.Mathlib.Omega.{arith}
 use borrow.Author.Tests.{eqb-false}
 use Rattle.ring.specs.declared.refusals.Refusal.{Refusal}
-use Rattle.ring.specs.declared.refusals.Verdict.{Verdict}
-use Rattle.ring.specs.declared.refusals.Verdict.TheVariants.{Allowed, Refused}
+use Rattle.ring.specs.Refusals.{Verdict}
+use Rattle.std.specs.Prelude.{Ok, Err}
 use Rattle.ring.specs.Refusals.{or_else}
 use Rattle.ring.proofs.Cases.{same, different, test, impossible}
 use Rattle.ring.proofs.AdmissionLaws.{both_allowed, allowed_both, says_allowed, says_refused, says}
 use Rattle.checker.specs.Check.{first_ground}
 
--- the walk over the requests below m, of which `whole` is the result: it begins with them all, a refusal is the result, without one it
--- goes on, and
--- past the last request nothing is refused
-pub walk_begin : (ground : ℕ → Verdict) (m : ℕ) → first_ground ground 0 (m - 0) ≡ first_ground ground 0 m
-walk_begin ground m =
-    let all : m - 0 ≡ m = omega arith in
-    ap (first_ground ground 0) all
-
-module _ (ground : ℕ → Verdict) (i m : ℕ) (whole : Verdict) (walk : first_ground ground i (m - i) ≡ whole) where
-  turn : i < m → or_else (ground i) (first_ground ground (i + 1) (m - (i + 1))) ≡ whole
+-- the walk over the requests below m: a refusal of request i is the result, without one it goes on, and past the last request nothing is
+-- refused
+module _ (ground : ℕ → Verdict) (i m : ℕ) where
+  pub ground_turn : i < m → first_ground ground i (m - i) ≡ or_else (ground i) (first_ground ground (i + 1) (m - (i + 1)))
   unfolding first_ground
-  turn h =
+  ground_turn h =
       let left : m - i ≡ suc (m - (i + 1)) = omega arith in
-      sym (ap (first_ground ground i) left) ∙ walk
+      ap (first_ground ground i) left
 
-  pub walk_found : i < m → (r : Refusal) → ground i ≡ Refused r → Refused r ≡ whole
-  walk_found h r e = cc (turn h)
-
-  pub walk_next : i < m → ground i ≡ Allowed → first_ground ground (i + 1) (m - (i + 1)) ≡ whole
-  walk_next h e = cc (turn h)
-
-  pub walk_ended : m ≤ i → Allowed ≡ whole
+  pub ground_ended : m ≤ i → first_ground ground i (m - i) ≡ Ok tt
   unfolding first_ground
-  walk_ended h =
+  ground_ended h =
       let left : m - i ≡ 0 = omega arith in
-      sym (ap (first_ground ground i) left) ∙ walk
+      ap (first_ground ground i) left
 
 -- two grounds that say the same of each of the requests
 pub first_same : (ground other : ℕ → Verdict) (i count : ℕ)
@@ -49,8 +37,8 @@ first_same ground other i (suc count) h = cc (
 )
 
 -- there is no refusal exactly if no request has one
-pub first_none : (ground : ℕ → Verdict) (i count : ℕ) → first_ground ground i count ≡ Allowed
-    → (k : ℕ) → i ≤ k → k < i + count → ground k ≡ Allowed
+pub first_none : (ground : ℕ → Verdict) (i count : ℕ) → first_ground ground i count ≡ (Ok tt)
+    → (k : ℕ) → i ≤ k → k < i + count → ground k ≡ (Ok tt)
 unfolding first_ground
 first_none ground i zero e k l u = absurd (omega arith)
 first_none ground i (suc count) e k l u =
@@ -61,7 +49,7 @@ first_none ground i (suc count) e k l u =
     ]
 
 pub none_first : (ground : ℕ → Verdict) (i count : ℕ)
-    → ((k : ℕ) → i ≤ k → k < i + count → ground k ≡ Allowed) → first_ground ground i count ≡ Allowed
+    → ((k : ℕ) → i ≤ k → k < i + count → ground k ≡ (Ok tt)) → first_ground ground i count ≡ (Ok tt)
 unfolding first_ground
 none_first ground i zero h = refl
 none_first ground i (suc count) h =
@@ -73,10 +61,10 @@ pub record FirstRefused (ground : ℕ → Verdict) (i count : ℕ) (r : Refusal)
   pub place : ℕ
   pub from : i ≤ place
   pub below : place < i + count
-  pub refused : ground place ≡ Refused r
-  pub before : (k : ℕ) → i ≤ k → k < place → ground k ≡ Allowed
+  pub refused : ground place ≡ Err r
+  pub before : (k : ℕ) → i ≤ k → k < place → ground k ≡ (Ok tt)
 
-pub first_refused : (ground : ℕ → Verdict) (i count : ℕ) (r : Refusal) → first_ground ground i count ≡ Refused r
+pub first_refused : (ground : ℕ → Verdict) (i count : ℕ) (r : Refusal) → first_ground ground i count ≡ Err r
     → FirstRefused ground i count r
 unfolding first_ground
 first_refused ground i zero r e = impossible (cc)

@@ -9,7 +9,7 @@ use Rattle.ring.specs.declared.ways.Way.{Way}
 use Rattle.ring.specs.declared.requests.Request.{Request}
 use Rattle.ring.specs.declared.fates.Fate.{Fate}
 use Rattle.ring.specs.declared.fates.Fate.TheVariants.{Blocked, Served}
-use Rattle.ring.specs.declared.refusals.Verdict.TheVariants.{Allowed}
+use Rattle.std.specs.Prelude.{Ok}
 use Rattle.ring.specs.Requests.{request, ValidRequests}
 use Rattle.ring.specs.Ways.{uses}
 use Rattle.ring.specs.Internal.Sharing.{sharing}
@@ -17,8 +17,8 @@ use Rattle.ring.specs.Fates.{fate_of}
 use Rattle.ring.specs.Plans.{fate, fates_of}
 use Rattle.ring.proofs.Cases.{yes, no, is, less, not_less, compare, impossible}
 use Rattle.ring.proofs.FateLaws.{within_served, fate_at}
-use Rattle.links.specs.Links.{none, held, LinkSets, Held}
-use Rattle.links.proofs.RowLaws.{holding_none, held_still, held_now, free_apart}
+use Rattle.links.specs.Links.{none, held, Held}
+use Rattle.links.proofs.RowLaws.{held_still, held_now, free_apart}
 use Rattle.checker.specs.Check.{conflicting, pair_verdict, later_verdict, pair_verdicts}
 use Rattle.checker.specs.Internal.Placing.{Placed}
 use Rattle.checker.proofs.GroundLaws.{none_first}
@@ -38,7 +38,6 @@ placed_served rows after f way colour r e h = subst (λ (g : Fate). Placed rows 
 -- ---- the requests below i hold their links, and no two of them are in conflict
 
 pub record Disjoint (R : List Request) (F : List Fate) (rows : List (List ℕ)) (i : ℕ) : Type 0 where
-  pub shape : LinkSets rows
   pub holding : (j c : ℕ) (u : Way) → j < i → c < 128 → fate F j ≡ Served u c → (link : ℕ) → link < 256 → uses u (request R j) link ≡ true
       → held rows c link ≡ true
   pub apart : (j k : ℕ) → j < k → k < i → conflicting sharing (fate F j) (request R j) (fate F k) (request R k) ≡ false
@@ -46,7 +45,6 @@ pub record Disjoint (R : List Request) (F : List Fate) (rows : List (List ℕ)) 
 module _ (R : List Request) (F : List Fate) where
   pub disjoint_start : Disjoint R F none 0
   disjoint_start = record {
-    shape = (holding_none (λ c link. false) (λ c link. refl)).shape;
     holding = λ j c u h. absurd (omega arith);
     apart = λ j k h l. absurd (omega arith);
   }
@@ -67,7 +65,6 @@ module _ (R : List Request) (F : List Fate) where
 
     blocked : fate F i ≡ Blocked → Disjoint R F rows (i + 1)
     blocked e = record {
-      shape = s.shape;
       holding = λ j c u l b f link. elim (compare j i) [
         | less p t ↦ s.holding j c u p b f link
         | not_less p t ↦
@@ -80,7 +77,6 @@ module _ (R : List Request) (F : List Fate) where
     served : (way : Way) (colour : ℕ) → colour < 128 → fate F i ≡ Served way colour → Held rows after way (request R i) colour true
         → Disjoint R F after (i + 1)
     served way colour small e placed = record {
-      shape = placed.shape;
       holding = λ j c u l b f link m g. elim (compare j i) [
         | less p t ↦ held_still rows after way (request R i) colour true placed c link b m (s.holding j c u p b f link m g)
         | not_less p t ↦
@@ -104,7 +100,7 @@ module _ (R : List Request) (F : List Fate) where
     go Blocked e few placed = rw placed (blocked e)
     go (Served way colour) e few placed = served way colour (few way colour refl) e placed
 
-  pub disjoint_end : (rows : List (List ℕ)) (i : ℕ) → length R ≤ i → Disjoint R F rows i → pair_verdicts sharing R F ≡ Allowed
+  pub disjoint_end : (rows : List (List ℕ)) (i : ℕ) → length R ≤ i → Disjoint R F rows i → pair_verdicts sharing R F ≡ (Ok tt)
   unfolding pair_verdicts later_verdict pair_verdict
   disjoint_end rows i h s =
       none_first (later_verdict sharing R F) 0 (length R) (λ j l u.

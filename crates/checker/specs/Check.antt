@@ -1,20 +1,18 @@
 -- The answer to a check of fate numbers.
+use Rattle.std.specs.Prelude.{Result, Ok, Err}
 use Rattle.std.specs.Prelude.{ℕ, zero, suc, ◌+◌, ◌*◌, ◌-◌, Bool, false, ◌&&◌, List, [], ◌∷◌, eqb, ltb, length, get_or, take}
 use Rattle.ring.specs.declared.ways.Way.{Way}
 use Rattle.ring.specs.declared.requests.Request.{Request}
 use Rattle.ring.specs.declared.fates.Fate.{Fate}
 use Rattle.ring.specs.declared.fates.Fate.TheVariants.{Blocked, Served}
+use Rattle.ring.specs.declared.refusals.Refusal.{Refusal}
 use Rattle.ring.specs.declared.refusals.Refusal.TheVariants.{FateNumber, Conflict}
-use Rattle.ring.specs.declared.refusals.Verdict.{Verdict}
-use Rattle.ring.specs.declared.refusals.Verdict.TheVariants.{Allowed, Refused}
 use Rattle.ring.specs.Requests.{requests_of, request}
 use Rattle.ring.specs.Ways.{share_link}
 use Rattle.ring.specs.Plans.{fate, fates_of, served}
 use Rattle.ring.specs.Admission.{call_verdict}
-use Rattle.ring.specs.Refusals.{refuse_if, or_else}
+use Rattle.ring.specs.Refusals.{Verdict, refuse_if, or_else}
 use Rattle.ring.specs.Answers.{InNumbers, gives, refuses}
-use Rattle.checker.specs.declared.CheckAnswer.{CheckAnswer}
-use Rattle.checker.specs.declared.CheckAnswer.TheVariants as answer
 
 -- a test whether the ways of two requests share a link
 abbrev pub SharingTest : Type 0
@@ -22,7 +20,7 @@ SharingTest = Way → Request → Way → Request → Bool
 
 -- the first of a ground's refusals, among `count` requests from number i on
 unfoldable pub first_ground : (ℕ → Verdict) → ℕ → ℕ → Verdict
-first_ground verdict_of i zero = Allowed
+first_ground verdict_of i zero = Ok tt
 first_ground verdict_of i (suc count) = or_else (verdict_of i) (first_ground verdict_of (i + 1) count)
 
 -- "7 a number above 2w", of request i
@@ -52,26 +50,26 @@ unfoldable pub pair_verdicts : SharingTest → List Request → List Fate → Ve
 pair_verdicts share R F = first_ground (later_verdict share R F) 0 (length R)
 
 -- the refusal of a verdict, or what comes later
-abbrev pub unless_refused : Verdict → CheckAnswer → CheckAnswer
-unless_refused (Refused r) later = answer.Refused r
-unless_refused Allowed later = later
+abbrev pub unless_refused : Verdict → Result ℕ Refusal → Result ℕ Refusal
+unless_refused (Err r) later = Err r
+unless_refused (Ok tt) later = later
 
 -- 7, then 8; success gives the number served
-unfoldable pub table_answer : SharingTest → ℕ → List Request → List ℕ → CheckAnswer
+unfoldable pub table_answer : SharingTest → ℕ → List Request → List ℕ → Result ℕ Refusal
 table_answer share w R numbers =
     unless_refused (or_else (number_verdicts w numbers) (pair_verdicts share R (fates_of numbers)))
-    (answer.Passed (served (fates_of numbers)))
+    (Ok (served (fates_of numbers)))
 
 -- "table entries past m are not read": the first m entries
 abbrev pub numbers_in : List ℕ → List ℕ → List ℕ
 numbers_in ends table = take (length (requests_of ends)) table
 
 -- "1 to 6 as Plan", then 7 and 8
-unfoldable pub check_answer : ℕ → ℕ → List ℕ → List ℕ → CheckAnswer
+unfoldable pub check_answer : ℕ → ℕ → List ℕ → List ℕ → Result ℕ Refusal
 check_answer n w ends table =
     unless_refused (call_verdict n w ends (length table)) (table_answer (share_link n) w (requests_of ends) (numbers_in ends table))
 
 -- the answer in numbers: "Success gives the number served"
-abbrev pub check_in_numbers : CheckAnswer → InNumbers
-check_in_numbers (answer.Passed k) = gives (k ∷ [])
-check_in_numbers (answer.Refused r) = refuses r
+abbrev pub check_in_numbers : Result ℕ Refusal → InNumbers
+check_in_numbers (Ok k) = gives (k ∷ [])
+check_in_numbers (Err r) = refuses r

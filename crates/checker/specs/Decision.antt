@@ -1,18 +1,15 @@
 -- The checker decides whether a table holds a feasible plan, and its refusals name real faults.
-use Rattle.std.specs.Prelude.{ℕ, ◌*◌, ◌≤◌, ◌<◌, ◌≡◌, true, List, length, get_or}
+use Rattle.std.specs.Prelude.{Result, Ok, Err, ℕ, ◌*◌, ◌≤◌, ◌<◌, ◌≡◌, true, List, length, get_or}
 use Rattle.ring.specs.declared.ways.Way.{Way}
 use Rattle.ring.specs.declared.requests.Request.{Request}
 use Rattle.ring.specs.declared.fates.Fate.{Fate}
 use Rattle.ring.specs.declared.fates.Fate.TheVariants.{Served}
 use Rattle.ring.specs.declared.refusals.Refusal.{Refusal}
 use Rattle.ring.specs.declared.refusals.Refusal.TheVariants.{FateNumber, Conflict}
-use Rattle.ring.specs.declared.refusals.Verdict.TheVariants.{Allowed}
 use Rattle.ring.specs.Requests.{requests_of, request}
 use Rattle.ring.specs.Ways.{uses}
 use Rattle.ring.specs.Plans.{fate, fates_of, served, Feasible}
 use Rattle.ring.specs.Admission.{call_verdict}
-use Rattle.checker.specs.declared.CheckAnswer.{CheckAnswer}
-use Rattle.checker.specs.declared.CheckAnswer.TheVariants.{Passed, Refused}
 use Rattle.checker.specs.Check.{numbers_in, check_answer}
 
 -- "7 a number above 2w, first such request"
@@ -48,13 +45,13 @@ pub data Fault (n w : ℕ) (R : List Request) (numbers : List ℕ) : Refusal →
   conflict : {i j : ℕ} → ConflictFault n w R numbers i j → Fault n w R numbers (Conflict i j)
 
 -- an answer passes exactly the feasible plans, with the number that they serve, and every refusal names its fault
-pub record Decided (n w : ℕ) (R : List Request) (numbers : List ℕ) (answer : CheckAnswer) : Type 0 where
-  pub passed_feasible : (k : ℕ) → answer ≡ Passed k → Feasible n w R (fates_of numbers)
-  pub passed_served : (k : ℕ) → answer ≡ Passed k → k ≡ served (fates_of numbers)
-  pub feasible_passed : Feasible n w R (fates_of numbers) → answer ≡ Passed (served (fates_of numbers))
-  pub refused_fault : (r : Refusal) → answer ≡ Refused r → Fault n w R numbers r
+pub record Decided (n w : ℕ) (R : List Request) (numbers : List ℕ) (answer : Result ℕ Refusal) : Type 0 where
+  pub passed_feasible : (k : ℕ) → answer ≡ Ok k → Feasible n w R (fates_of numbers)
+  pub passed_served : (k : ℕ) → answer ≡ Ok k → k ≡ served (fates_of numbers)
+  pub feasible_passed : Feasible n w R (fates_of numbers) → answer ≡ Ok (served (fates_of numbers))
+  pub refused_fault : (r : Refusal) → answer ≡ Err r → Fault n w R numbers r
 
 -- the promise: so it is of every check without the grounds 1 to 6
 abbrev pub CheckerDecides : Type 0
-CheckerDecides = (n w : ℕ) (ends table : List ℕ) → call_verdict n w ends (length table) ≡ Allowed
+CheckerDecides = (n w : ℕ) (ends table : List ℕ) → call_verdict n w ends (length table) ≡ Ok tt
     → Decided n w (requests_of ends) (numbers_in ends table) (check_answer n w ends table)

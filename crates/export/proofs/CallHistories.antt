@@ -4,16 +4,18 @@ use mathlib.Core.Path.{◌≡◌, refl, sym, ◌∙◌, ap, subst}
 use mathlib.Core.Bool.{Bool, true, false, cond}
 use mathlib.Core.List.{List, [], ◌∷◌}
 use native.Mathlib.Omega.{arith}
-use Rattle.ring.specs.declared.refusals.Verdict.{Verdict}
-use Rattle.ring.specs.declared.refusals.Verdict.TheVariants as verdict
+use borrow.Author.Tests.{eq-eqb}
+use Rattle.ring.specs.declared.refusals.Refusal.{Refusal}
+use Rattle.ring.specs.Refusals.{number_of}
+use Rattle.ring.proofs.Cases.{impossible}
+use Rattle.std.specs.Prelude.{Ok, Err}
+use Rattle.ring.specs.Refusals.{Verdict}
 use Rattle.ring.specs.declared.refusals.Refusal.TheVariants.{RevisionLow}
 use Rattle.ring.specs.Answers.{gives, refuses}
 use Rattle.ring.specs.Admission.{ring_verdict}
-use Rattle.texts.proofs.GroundLaws.{line_of}
 use Rattle.book.specs.declared.books.Book.{Book}
-use Rattle.book.specs.declared.grants.Granted.{Granted}
 use Rattle.book.specs.Books.{Valid, book_of, open_unless, opened, open_in_numbers}
-use Rattle.book.specs.Grants.{circuit_of, grant_verdict, grant_unless, granted, grant_in_numbers}
+use Rattle.book.specs.Grants.{Granted, circuit_of, grant_verdict, grant_unless, granted, grant_in_numbers}
 use Rattle.book.specs.Orders.{shown_to, show_in_numbers}
 use Rattle.bundles.specs.Previews.{previewed_all, preview_in_numbers}
 use Rattle.charges.specs.Charges.{charged, book_charged}
@@ -26,9 +28,8 @@ use Rattle.book.proofs.Opening.{opened_valid}
 use Rattle.book.proofs.Outcomes.{removal_cases, confirmation_cases}
 use Rattle.book.proofs.Validity.{removal_valid, confirmation_valid, keeps_valid}
 use Rattle.stored.specs.declared.forms.Form.TheVariants.{New}
-use Rattle.stored.specs.declared.loads.Loaded.{Loaded}
 use Rattle.stored.specs.Forms.{stored_form}
-use Rattle.stored.specs.Loading.{loaded}
+use Rattle.stored.specs.Loading.{Loaded, loaded}
 use Rattle.stored.specs.Histories.{StoredAfter}
 use Rattle.stored.proofs.LoadLaws.{recent_low}
 use Rattle.stored.proofs.Promised.{stored_loads, loads_only_forms}
@@ -42,7 +43,7 @@ use Rattle.export.specs.BookCalls.{charge_behind, charge_call, charge_all_call}
 use Rattle.export.specs.Histories.{Kept, kept_by, answer_of, kept_after, kept_run, unstored, stored_calls, opened_in, CallHistories}
 use Rattle.export.proofs.Keeping.{Holds, held_valid, changed_held, asked_loaded, book_after, Stores, no_room, whole, stores}
 use Rattle.export.proofs.Keeping.{whole_holds, storing_holds, refusing_holds}
-use Rattle.outcomes.proofs.OutcomeLaws.{on_refusal}
+use Rattle.outcomes.proofs.OutcomeLaws.{on_refusal, refusal_number}
 use Rattle.export.proofs.CallLaws.{asking_refused}
 
 -- a change by its answer and its book
@@ -60,8 +61,8 @@ module _ (kept : Kept) (b : Book) (h : Holds kept b) where
       go : (v : Verdict) → Valid (made v).book
           → let o = changing (grant_in_numbers (made v).answer) (made v).book kept.buffer in
           Holds (kept_by kept 1 o) (book_after o b (made v).book)
-      go verdict.Allowed valid = storing_holds kept b h ((b.grants + 1) ∷ []) 1 (made verdict.Allowed).book valid refl
-      go (verdict.Refused r) valid = refusing_holds kept b h 1 r _ b refl
+      go (Ok allowed) valid = storing_holds kept b h ((b.grants + 1) ∷ []) 1 (made (Ok allowed)).book valid refl
+      go (Err r) valid = refusing_holds kept b h 1 r _ b refl
 
   remove_on_holds : (serial : ℕ) → let o = remove_on b serial kept.buffer in
       Holds (kept_by kept 0 o) (book_after o b (removed b serial).book)
@@ -114,9 +115,12 @@ run_holds kept b h (call ∷ calls) =
     subst (Holds (kept_run kept (call ∷ calls))) (run_one b (stored_calls kept calls) call (unstored (answer_of (kept_run kept calls) call)))
     (step (kept_run kept calls) (run b (stored_calls kept calls)) (run_holds kept b h calls) call)
 
+refusal_not_zero : {A : Type 0} (r : Refusal) → number_of r ≡ 0 → A
+refusal_not_zero r e = impossible (sym (eq-eqb (number_of r) 0 e) ∙ refusal_number r)
+
 -- an accepted opening
 pub record OpensBook (n w : ℕ) (buffer : List ℕ) : Type 0 where
-  pub allowed : ring_verdict n w ≡ verdict.Allowed
+  pub allowed : ring_verdict n w ≡ Ok tt
   pub holds : Holds (opened_in n w buffer) (opened n w).book
 
 pub opens_book : (n w : ℕ) (buffer : List ℕ) → (open_call n w buffer).answer.number ≡ 0 → OpensBook n w buffer
@@ -125,7 +129,7 @@ opens_book n w buffer = go (ring_verdict n w) refl
   where
     go : (v : Verdict) → ring_verdict n w ≡ v
         → (changing (open_in_numbers (open_unless v n w).answer) (open_unless v n w).book buffer).answer.number ≡ 0 → OpensBook n w buffer
-    go verdict.Allowed e accepted = record { allowed = e; holds = rw e (first (stores [] (book_of n w 0 []) buffer) accepted) }
+    go (Ok allowed) e accepted = record { allowed = e; holds = rw e (first (stores [] (book_of n w 0 []) buffer) accepted) }
       where
         first : Stores [] (book_of n w 0 []) buffer → (storing [] (book_of n w 0 []) buffer).answer.number ≡ 0
             → Holds (kept_by (record { buffer = buffer; size = 0 }) 0 (storing [] (book_of n w 0 []) buffer)) (book_of n w 0 [])
@@ -133,9 +137,9 @@ opens_book n w buffer = go (ring_verdict n w) refl
         first (whole s) accepted =
             subst (λ (o : Outcome). Holds (kept_by (record { buffer = buffer; size = 0 }) 0 o) (book_of n w 0 [])) (sym s)
             (whole_holds [] 0 (book_of n w 0 []) (record { buffer = buffer; size = 0 }) (opened_valid n w e) refl)
-    go (verdict.Refused r) e accepted =
+    go (Err r) e accepted =
         let o = on_refusal r (storing (refuses r).values (book_of 0 0 0 []) buffer) (refusing (refuses r) buffer) in
-        absurd (omega (arith, (line_of r refl).0, ap (λ (o : Outcome). o.answer.number) o))
+        refusal_not_zero r (sym (ap (λ (o : Outcome). o.answer.number) o) ∙ accepted)
 
 pub call_histories : CallHistories
 unfolding grant_call remove_call confirm_call show_call holder_call preview_call load_call charge_call charge_all_call

@@ -17,14 +17,10 @@ use Rattle.book.specs.Grants.{granted, grant_in_numbers}
 use Rattle.book.specs.Removals.{removed, remove_in_numbers}
 use Rattle.book.specs.Confirmations.{confirmed, confirm_in_numbers}
 use Rattle.stored.specs.declared.forms.Form.TheVariants.{Old, New}
-use Rattle.stored.specs.declared.stores.StoreAnswer.{StoreAnswer}
-use Rattle.stored.specs.declared.stores.StoreAnswer.TheVariants as store
-use Rattle.stored.specs.declared.loads.LoadAnswer.{LoadAnswer}
-use Rattle.stored.specs.declared.loads.LoadAnswer.TheVariants as load
-use Rattle.stored.specs.declared.loads.Loaded.{Loaded}
+use Rattle.std.specs.Prelude.{Result, Ok, Err, ⊤}
 use Rattle.stored.specs.Forms.{stored_form}
 use Rattle.stored.specs.Storing.{length_of, form_answer, after_form, store_answer, after_store, store_in_numbers}
-use Rattle.stored.specs.Loading.{length_wrong, loaded, loaded_old, load_in_numbers}
+use Rattle.stored.specs.Loading.{Loaded, length_wrong, loaded, loaded_old, load_in_numbers}
 use Rattle.stored.specs.Converting.{convert_after, buffer_after, convert_answer, after_convert}
 use Rattle.stored.specs.Converting.{back_after, buffer_after_back, back_answer, after_back}
 use Rattle.stored.proofs.StoreLaws.{form_length}
@@ -63,23 +59,23 @@ leaves_loaded buffer size f h =
     leaves_step (load_in_numbers l.answer) buffer (f l.book) (h l.book)
 
 -- what a conversion comes to
-abbrev written : StoreAnswer → List ℕ → Outcome
+abbrev written : Result ℕ Refusal → List ℕ → Outcome
 written answer after = record { answer = store_in_numbers answer; buffer = after }
 
-leaves_converted : (answer : LoadAnswer) (b : Book) (buffer : List ℕ)
+leaves_converted : (answer : Result ⊤ Refusal) (b : Book) (buffer : List ℕ)
     → Leaves buffer (written (convert_after answer b buffer) (buffer_after answer b buffer))
-leaves_converted load.Loaded b buffer = form_kept New b buffer
-leaves_converted (load.Refused r) b buffer = λ k. refl
+leaves_converted (Ok loaded) b buffer = form_kept New b buffer
+leaves_converted (Err r) b buffer = λ k. refl
 
-leaves_back : (answer : LoadAnswer) (b : Book) (buffer : List ℕ)
+leaves_back : (answer : Result ⊤ Refusal) (b : Book) (buffer : List ℕ)
     → Leaves buffer (written (back_after answer b buffer) (buffer_after_back answer b buffer))
-leaves_back load.Loaded b buffer = go (has_marked b)
+leaves_back (Ok loaded) b buffer = go (has_marked b)
   where
     go : (t : Bool) → Leaves buffer
-        (written (cond t (store.Refused MarkedConversion) (form_answer Old b buffer)) (cond t buffer (after_form Old b buffer)))
+        (written (cond t (Err MarkedConversion) (form_answer Old b buffer)) (cond t buffer (after_form Old b buffer)))
     go true = λ k. refl
     go false = form_kept Old b buffer
-leaves_back (load.Refused r) b buffer = λ k. refl
+leaves_back (Err r) b buffer = λ k. refl
 
 pub refused_leaves : RefusedLeaves
 unfolding open_call grant_call remove_call confirm_call convert_call convert_back_call convert_answer after_convert back_answer after_back
@@ -109,11 +105,11 @@ length_past buffer size h =
 
 -- the first `size` bytes of the buffer load as this book
 abbrev pub Holds : Kept → Book → Type 0
-Holds kept b = loaded 0 (front kept.size kept.buffer) ≡ record { answer = load.Loaded; book = b }
+Holds kept b = loaded 0 (front kept.size kept.buffer) ≡ record { answer = Ok tt; book = b }
 
 module _ (kept : Kept) (b : Book) (h : Holds kept b) where
   pub held_valid : Valid b
-  held_valid = loaded_valid (front kept.size kept.buffer) (sym h) refl
+  held_valid = loaded_valid (front kept.size kept.buffer) {l = Ok b} (sym h) refl
 
   -- what a call comes to that loads it
   pub changed_held : (f : Book → Outcome) → loaded_then kept.buffer kept.size f ≡ f b
@@ -121,7 +117,7 @@ module _ (kept : Kept) (b : Book) (h : Holds kept b) where
       on_success (load_in_numbers l.answer) (f l.book) (refusing (load_in_numbers l.answer) kept.buffer)) h
 
 -- what a question comes to, of bytes that load as a book
-pub asked_loaded : (lowest : ℕ) (bytes : List ℕ) (b : Book) → loaded lowest bytes ≡ record { answer = load.Loaded; book = b }
+pub asked_loaded : (lowest : ℕ) (bytes : List ℕ) (b : Book) → loaded lowest bytes ≡ record { answer = Ok tt; book = b }
     → (f : Book → InNumbers) → asked_of lowest bytes f ≡ f b
 asked_loaded lowest bytes b e f = sym (by_asking lowest bytes f (sym e) refl)
 
@@ -179,9 +175,9 @@ pub refusing_holds : (kept : Kept) (b : Book) → Holds kept b → (entry : ℕ)
 refusing_holds kept b h entry r next d e =
     subst (λ (o : Outcome). Holds (kept_by kept entry o) (book_after o b d)) (sym (on_refusal r next (refusing (refuses r) kept.buffer)))
     (subst (λ (k : ℕ). loaded 0 (front k kept.buffer)
-    ≡ record { answer = load.Loaded; book = book_after (refusing (refuses r) kept.buffer) b d })
+    ≡ record { answer = Ok tt; book = book_after (refusing (refuses r) kept.buffer) b d })
     (sym (on_refusal r _ kept.size))
-    (h ∙ ap (λ (x : Book). record { answer = load.Loaded; book = x }) (sym (either (unstored (refuses r))))))
+    (h ∙ ap (λ (x : Book). record { answer = Ok tt; book = x }) (sym (either (unstored (refuses r))))))
   where
     either : (t : Bool) → cond t b d ≡ b
     either true = refl

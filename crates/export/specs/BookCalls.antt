@@ -1,5 +1,6 @@
 -- The calls on a book: each loads it, acts, and stores it again if it may have changed.
-use Rattle.std.specs.Prelude.{ℕ, cond, List, ltb, length, take}
+use Rattle.std.specs.Prelude.{ℕ, cond, List, ltb, length, take, Result, Ok, Err, ⊤}
+use Rattle.ring.specs.declared.refusals.Refusal.{Refusal}
 use Rattle.ring.specs.Answers.{InNumbers, gives}
 use Rattle.book.specs.declared.books.Book.{Book}
 use Rattle.book.specs.Books.{opened, open_in_numbers}
@@ -7,11 +8,7 @@ use Rattle.bundles.specs.Previews.{previewed_all, preview_in_numbers}
 use Rattle.book.specs.Orders.{shown_to, show_in_numbers}
 use Rattle.book.specs.Holders.{held_for, holder_in_numbers}
 use Rattle.book.specs.Revisions.{revision}
-use Rattle.charges.specs.declared.charges.ChargeAnswer.{ChargeAnswer}
-use Rattle.charges.specs.declared.charges.ChargeAnswer.TheVariants as charge
 use Rattle.charges.specs.Charges.{charged, book_charged}
-use Rattle.stored.specs.declared.loads.LoadAnswer.{LoadAnswer}
-use Rattle.stored.specs.declared.loads.LoadAnswer.TheVariants as load
 use Rattle.stored.specs.Storing.{store_in_numbers}
 use Rattle.stored.specs.Loading.{loaded, load_in_numbers}
 use Rattle.stored.specs.Converting.{convert_answer, after_convert, back_answer, after_back}
@@ -77,14 +74,14 @@ unfoldable pub preview_call : List ℕ → List ℕ → InNumbers
 preview_call bytes entries = asked_of 0 bytes (λ (b : Book). preview_in_numbers (previewed_all b (lines_of_entries entries)))
 
 -- 18, 19 or 20, or the charge by the book that was loaded
-abbrev pub charge_behind : LoadAnswer → ChargeAnswer → ChargeAnswer
-charge_behind load.Loaded answer = answer
-charge_behind (load.Refused r) answer = charge.Refused r
+abbrev pub charge_behind : Result ⊤ Refusal → Result ℕ Refusal → Result ℕ Refusal
+charge_behind (Ok loaded) answer = answer
+charge_behind (Err r) answer = Err r
 
 -- load, charge for an order: the cents
-unfoldable pub charge_call : List ℕ → ℕ → List ℕ → List ℕ → ChargeAnswer
+unfoldable pub charge_call : List ℕ → ℕ → List ℕ → List ℕ → Result ℕ Refusal
 charge_call bytes serial lengths rates = charge_behind (loaded 0 bytes).answer (charged (loaded 0 bytes).book serial lengths rates)
 
 -- load, charge for the live orders together: the cents
-unfoldable pub charge_all_call : List ℕ → List ℕ → List ℕ → ChargeAnswer
+unfoldable pub charge_all_call : List ℕ → List ℕ → List ℕ → Result ℕ Refusal
 charge_all_call bytes lengths rates = charge_behind (loaded 0 bytes).answer (book_charged (loaded 0 bytes).book lengths rates)

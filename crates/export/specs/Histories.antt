@@ -1,5 +1,5 @@
 -- What the calls on a book promise together: the book in the buffer goes through the book's own histories.
-use Rattle.std.specs.Prelude.{ℕ, ◌≤◌, ◌<◌, ◌≡◌, Bool, cond, List, [], ◌∷◌, eqb, length, get_or}
+use Rattle.std.specs.Prelude.{ℕ, ◌≤◌, ◌<◌, ◌≡◌, Bool, cond, List, [], ◌∷◌, eqb, length, get_or, Err}
 use Rattle.ring.specs.Answers.{InNumbers, gives, refuses}
 use Rattle.ring.specs.declared.refusals.Refusal.TheVariants.{StoredLength, RevisionLow}
 use Rattle.book.specs.Books.{opened}
@@ -9,7 +9,6 @@ use Rattle.book.specs.Holders.{held_for, holder_in_numbers}
 use Rattle.book.specs.Revisions.{revision}
 use Rattle.charges.specs.Charges.{charged, book_charged}
 use Rattle.book.specs.History.{Call, Grant, Remove, Confirm, Show, Holder, run}
-use Rattle.stored.specs.declared.loads.LoadAnswer.TheVariants as load
 use Rattle.stored.specs.Loading.{loaded}
 use Rattle.stored.specs.Histories.{StoredAfter}
 use Rattle.outcomes.specs.Outcomes.{Outcome, on_success}
@@ -34,7 +33,7 @@ pub record RefusedLeaves : Type 0 where
 
 -- a length above the buffer's own is refused by 18
 abbrev pub LengthPast : Type 0
-LengthPast = (buffer : List ℕ) (size : ℕ) → length buffer < size → (loaded 0 (front size buffer)).answer ≡ load.Refused StoredLength
+LengthPast = (buffer : List ℕ) (size : ℕ) → length buffer < size → (loaded 0 (front size buffer)).answer ≡ Err StoredLength
 
 -- a buffer, and the length of the book in it as the latest change gave it
 pub record Kept : Type 0 where

@@ -1,13 +1,12 @@
 // Plans, checks, and the planning program's text.
 ghost use Rattle.checker.specs.Check.{check_answer, check_in_numbers};
-ghost use Rattle.plan_text.specs.Promise.{AnswerPromise};
-ghost use Rattle.outcomes.specs.Outcomes.{Answered};
 ghost use Rattle.export.specs.Calls.{PlanCall};
+ghost use Rattle.outcomes.specs.Outcomes.{Answered};
+ghost use Rattle.plan_text.specs.Promise.{AnswerPromise};
 
-use checker::{CheckAnswer, check};
-use outcomes::values::{put, put_summary, refused};
+use checker::check;
+use outcomes::values::{alone, answered, summary_values};
 use plan_text::answer;
-use planner::PlanAnswer;
 use planner::plans::plan;
 
 // Plans the requests of the ends into the table. Values: chain, match, pair, part (0 chain, 1 pair), ceiling.
@@ -22,14 +21,7 @@ pub extern "C" fn tarziloen_plan(
     ensures { PlanCall n w ends.now table.old table.new values.old
         values.new result }
 {
-    let answer = plan(n, w, ends, table);
-    match answer {
-        PlanAnswer::Planned(summary) => {
-            put_summary(values, summary);
-            0
-        }
-        PlanAnswer::Refused(refusal) => refused(refusal, values),
-    }
+    answered(plan(n, w, ends, table).map(summary_values), values)
 }
 
 // Checks the table for the requests of the ends. Values: the number served.
@@ -44,14 +36,7 @@ pub extern "C" fn tarziloen_check(
     ensures { Answered (check_in_numbers (check_answer n w ends.now table.now)) values.old
         values.new result }
 {
-    let answer = check(n, w, ends, table);
-    match answer {
-        CheckAnswer::Passed(served) => {
-            put(values, 0, served);
-            0
-        }
-        CheckAnswer::Refused(refusal) => refused(refusal, values),
-    }
+    answered(alone(check(n, w, ends, table)), values)
 }
 
 // The planning program's output for a text, and its length. A buffer of fewer than 8,192 bytes gets nothing.

@@ -1,40 +1,63 @@
 // Changes of a book, whose stored form lies in a buffer of the caller's.
 ghost use Rattle.std.specs.Prelude.{◌≡◌};
-ghost use Rattle.stored.specs.Loading.{loaded};
-ghost use Rattle.outcomes.specs.Outcomes.{Changed};
-ghost use Rattle.export.specs.BookCalls.{front, open_call, grant_call, remove_call, confirm_call};
+ghost use Rattle.export.specs.BookCalls.{confirm_call, front, grant_call, open_call, remove_call};
+ghost use Rattle.outcomes.specs.Outcomes.{Changed, outcome_of};
+ghost use Rattle.stored.specs.Loading.{loaded, loading_of};
 
-use book::books::OpenAnswer;
-use book::open;
+use book::{Book, Line};
 use outcomes::changes::{confirm_in, grant_in, keep, remove_in};
-use outcomes::values::refused;
-use stored::Loaded;
-use stored::loads::{LoadAnswer, load};
+use outcomes::values::answered;
+use ring::Refusal;
+use stored::load;
+
+// Opens a book and stores it.
+#[tactic(auto, using(outcomes::proofs::OutcomeLaws::refusal_number), unfolding(crate::specs::BookCalls::open_call))]
+fn open(n: u16, w: u16, buffer: &mut [u8]) -> Result<[u16; 1], Refusal>
+    ensures { outcome_of result buffer.new ≡ open_call n w buffer.old }
+{
+    keep(&Book::open(n, w)?, buffer)
+}
+
+// Loads the book in the first bytes of a buffer, of whatever revision; 18 if the buffer has fewer.
+fn load_front(buffer: &[u8], length: usize) -> Result<Book, Refusal>
+    ensures { loading_of result ≡ loaded 0 (front length buffer.now) }
+{
+    load(buffer.get(..length).unwrap_or(&[]), 0)
+}
+
+// Loads a book, grants a circuit in it, and stores it.
+#[tactic(auto, using(outcomes::proofs::OutcomeLaws::refusal_number), unfolding(crate::specs::BookCalls::grant_call))]
+fn grant(buffer: &mut [u8], length: usize, line: Line) -> Result<[u16; 2], Refusal>
+    ensures { outcome_of result buffer.new ≡ grant_call buffer.old length line.x line.y line.way line.colour line.crew }
+{
+    let mut book = load_front(buffer, length)?;
+    grant_in(&mut book, line, buffer)
+}
+
+// Loads a book, removes an order from it, and stores it.
+#[tactic(auto, using(outcomes::proofs::OutcomeLaws::refusal_number), unfolding(crate::specs::BookCalls::remove_call))]
+fn remove(buffer: &mut [u8], length: usize, serial: u16) -> Result<[u16; 1], Refusal>
+    ensures { outcome_of result buffer.new ≡ remove_call buffer.old length serial }
+{
+    let mut book = load_front(buffer, length)?;
+    remove_in(&mut book, serial, buffer)
+}
+
+// Loads a book, confirms the pull of a removed order in it, and stores it.
+#[tactic(auto, using(outcomes::proofs::OutcomeLaws::refusal_number), unfolding(crate::specs::BookCalls::confirm_call))]
+fn confirm(buffer: &mut [u8], length: usize, serial: u16) -> Result<[u16; 1], Refusal>
+    ensures { outcome_of result buffer.new ≡ confirm_call buffer.old length serial }
+{
+    let mut book = load_front(buffer, length)?;
+    confirm_in(&mut book, serial, buffer)
+}
 
 // Opens a book on n nodes with w colours and stores it. Value: the length of its stored form.
 #[unsafe(no_mangle)]
 pub extern "C" fn tarziloen_book_open(n: u16, w: u16, buffer: &mut [u8], values: &mut [u16]) -> u16
     ensures { Changed (open_call n w buffer.old) buffer.new values.old values.new result }
 {
-    let opened = open(n, w);
-    let answer = opened.answer;
-    match answer {
-        OpenAnswer::Opened => {
-            let book = opened.book;
-            keep(book, buffer, values)
-        }
-        OpenAnswer::Refused(refusal) => refused(refusal, values),
-    }
-}
-
-// Loads the book in the first bytes of a buffer, of whatever revision; 18 if the buffer has fewer.
-fn load_front(buffer: &[u8], length: usize) -> Loaded
-    ensures { result ≡ loaded 0 (front length buffer.now) }
-{
-    if buffer.len() < length {
-        return load(&buffer[..0], 0);
-    }
-    load(&buffer[..length], 0)
+    answered(open(n, w, buffer), values)
 }
 
 // Grants a circuit in the book in the first bytes of the buffer. Values: its serial, the length of the stored form.
@@ -52,15 +75,14 @@ pub extern "C" fn tarziloen_book_grant(
     ensures { Changed (grant_call buffer.old length x y way colour crew) buffer.new values.old
         values.new result }
 {
-    let loaded = load_front(buffer, length);
-    let answer = loaded.answer;
-    match answer {
-        LoadAnswer::Loaded => {
-            let book = loaded.book;
-            grant_in(book, x, y, way, colour, crew, buffer, values)
-        }
-        LoadAnswer::Refused(refusal) => refused(refusal, values),
-    }
+    let line = Line {
+        x,
+        y,
+        way,
+        colour,
+        crew,
+    };
+    answered(grant(buffer, length, line), values)
 }
 
 // Removes an order from the book in the first bytes of the buffer. Value: the length of the stored form.
@@ -74,15 +96,7 @@ pub extern "C" fn tarziloen_book_remove(
     ensures { Changed (remove_call buffer.old length serial) buffer.new values.old
         values.new result }
 {
-    let loaded = load_front(buffer, length);
-    let answer = loaded.answer;
-    match answer {
-        LoadAnswer::Loaded => {
-            let book = loaded.book;
-            remove_in(book, serial, buffer, values)
-        }
-        LoadAnswer::Refused(refusal) => refused(refusal, values),
-    }
+    answered(remove(buffer, length, serial), values)
 }
 
 // Confirms the pull of a removed order in the book in the first bytes of the buffer. Value: the length of the stored form.
@@ -96,13 +110,5 @@ pub extern "C" fn tarziloen_book_confirm(
     ensures { Changed (confirm_call buffer.old length serial) buffer.new values.old
         values.new result }
 {
-    let loaded = load_front(buffer, length);
-    let answer = loaded.answer;
-    match answer {
-        LoadAnswer::Loaded => {
-            let book = loaded.book;
-            confirm_in(book, serial, buffer, values)
-        }
-        LoadAnswer::Refused(refusal) => refused(refusal, values),
-    }
+    answered(confirm(buffer, length, serial), values)
 }

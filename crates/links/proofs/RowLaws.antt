@@ -4,7 +4,7 @@ use mathlib.Core.Path.{◌≡◌, sym, ap, ◌∙◌}
 use mathlib.Core.Bool.{Bool, true, false, not, ◌&&◌, ◌||◌, or-true}
 use mathlib.Core.List.{List, []}
 use lib.Dec.{eqb}
-use lib.ListN.{length, get_or, replicate, length-replicate, get_or-replicate}
+use lib.ListN.{length, replicate, length-replicate, get_or-replicate}
 use Rattle.ring.specs.declared.requests.Request.{Request}
 use Rattle.ring.specs.declared.ways.Way.{Way}
 use Rattle.ring.specs.Ways.{uses, some_link}
@@ -17,18 +17,17 @@ use Rattle.links.specs.Links.{none, held, LinkSets, FitsSets, Held}
 
 -- the rows hold just these links in each colour
 pub record Holding (rows : List (List ℕ)) (taken : ℕ → ℕ → Bool) : Type 0 where
-  pub shape : LinkSets rows
   pub exact : (c link : ℕ) → c < 128 → link < 256 → held rows c link ≡ taken c link
 
--- at the start, none
+-- the same four words for each colour are rows
+pub same_rows : (row : List ℕ) → length row ≡ 4 → LinkSets (replicate 128 row)
+same_rows row e = record { many = length-replicate 128 row; wide = λ c l. ap length (get_or-replicate 128 c row [] l) ∙ e }
+
+-- at the start they hold no link
 pub holding_none : (taken : ℕ → ℕ → Bool) → ((c link : ℕ) → taken c link ≡ false) → Holding none taken
 holding_none taken h = record {
-  shape = record { many = length-replicate 128 (replicate {A = ℕ} 4 0); wide = λ c l. ap length (row c l) };
-  exact = λ c link l b. ap (λ (r : List ℕ). has r link) (row c l) ∙ has_zeros 4 link ∙ sym (h c link);
+  exact = λ c link l b. ap (λ (r : List ℕ). has r link) (get_or-replicate 128 c (replicate 4 0) [] l) ∙ has_zeros 4 link ∙ sym (h c link);
 }
-  where
-    row : (c : ℕ) → c < 128 → get_or none c [] ≡ replicate {A = ℕ} 4 0
-    row c l = get_or-replicate 128 c (replicate 4 0) [] l
 
 -- two properties of links that are the same below n
 some_same : (n : ℕ) (p q : ℕ → Bool) → ((link : ℕ) → link < n → p link ≡ q link) → some_link n p ≡ some_link n q
@@ -41,10 +40,7 @@ module _ (rows after : List (List ℕ)) (way : Way) (r : Request) (colour : ℕ)
   -- then those of the way too, in its colour
   pub holding_more : (taken more : ℕ → ℕ → Bool) → Holding rows taken
       → ((c link : ℕ) → more c link ≡ (taken c link || (eqb colour c && uses way r link))) → Holding after more
-  holding_more taken more t h = record {
-    shape = s.shape;
-    exact = λ c link l b. s.links c link l b ∙ cc (t.exact c link l b, h c link);
-  }
+  holding_more taken more t h = record { exact = λ c link l b. s.links c link l b ∙ cc (t.exact c link l b, h c link) }
 
   -- it was free exactly if none of its links was taken in its colour
   pub holding_free : (taken : ℕ → ℕ → Bool) → Holding rows taken → colour < 128

@@ -1,13 +1,13 @@
 // The links that are held in each colour: 256 links as four words of 64 bits, link z as bit z % 64 of word z / 64.
 #![tactic(auto)]
 
-ghost use Rattle.std.specs.Prelude.{◌≡◌, ◌&&◌, ℕ, ◌+◌, ◌*◌, ◌<◌, eqb, ltb};
-ghost use Rattle.std.specs.Int.Bits.{bit_and};
+ghost use Rattle.std.specs.Prelude.{◌≡◌, ℕ, ◌+◌, ◌*◌, ◌<◌, eqb, ltb};
 ghost use Rattle.ring.specs.Ways.{uses};
 ghost use Rattle.sets.specs.Sets.{bit};
-ghost use Rattle.links.specs.Links.{LinkSets, FitsSets, Held};
+ghost use Rattle.links.specs.Links.{none, FitsSets, Held};
 
 use ring::{Request, Way};
+use std::marker::Model;
 
 // Word k of the links below t.
 fn below(t: usize, k: usize) -> u64
@@ -36,25 +36,44 @@ fn word(way: Way, request: Request, k: usize) -> u64
     }
 }
 
-// Whether a way is free so far and no link of this word is held.
-fn still_free(free: bool, held: u64, links: u64) -> bool
-    ensures { result ≡ (free && eqb (bit_and held links) 0) }
-{
-    free && held & links == 0
+// The links that are held in each of 128 colours.
+#[derive(Drop)]
+pub struct HeldLinks {
+    words: [[u64; 4]; 128],
 }
 
-// Holds the links of a way in a colour, and says whether all of them were free.
-pub fn hold(held: &mut [[u64; 4]], way: Way, request: Request, colour: usize) -> bool
-    requires { LinkSets held.old × FitsSets request colour }
-    ensures { Held held.old held.new way request colour result }
-{
-    let mut free = true;
-    let mut k = 0;
-    while k < 4 {
-        let links = word(way, request, k);
-        free = still_free(free, held[colour][k], links);
-        held[colour][k] = held[colour][k] | links;
-        k += 1;
+impl Model for HeldLinks {
+    ghost use Rattle.std.specs.Prelude.{ℕ, List};
+    ghost use Rattle.links.specs.Links.{LinkSets};
+
+    ghost Value = { List (List ℕ) };
+
+    ghost view = { λ h. h.words };
+
+    ghost invariant = { λ h. LinkSets h.words };
+}
+
+impl HeldLinks {
+    // No link is held.
+    pub fn new() -> Self
+        ensures { result ≡ none }
+    {
+        HeldLinks {
+            words: [[0; 4]; 128],
+        }
     }
-    free
+
+    // Holds the links of a way in a colour, and says whether all of them were free.
+    pub fn hold(&mut self, way: Way, request: Request, colour: usize) -> bool
+        requires { FitsSets request colour }
+        ensures { Held self.old self.new way request colour result }
+    {
+        let mut free = true;
+        for k in 0..4 {
+            let links = word(way, request, k);
+            free = free && self.words[colour][k] & links == 0;
+            self.words[colour][k] |= links;
+        }
+        free
+    }
 }

@@ -13,23 +13,24 @@ use Rattle.ring.proofs.Cases.{impossible}
 use Rattle.blossom.specs.Internal.Labels.{Free, Even}
 use Rattle.blossom.specs.Internal.Rows.{Symmetric}
 use Rattle.blossom.specs.Internal.Searches.{Searching}
+use Rattle.matching.specs.declared.labels.VertexLabel.TheVariants as kind
 use Rattle.matching.specs.Internal.Adjacency.{adjacent}
-use Rattle.matching.specs.Internal.Arrays.{Arrays}
-use Rattle.matching.specs.Internal.Model.{entry, label_of, among}
+use Rattle.matching.specs.declared.matchings.Search.{Search}
+use Rattle.matching.specs.Internal.Model.{entry, among}
 use Rattle.matching.specs.Internal.Search.{Standing, Settled, SearchAt, ScanAt, SearchOutcome}
 use Rattle.matching.specs.Internal.Steps.{enlarged_arrays, Attachable, Attached, enlarges, grows}
 use Rattle.matching.proofs.ModelLaws.{entry_inside}
-use Rattle.matching.proofs.StandingLaws.{even_inside, mate_inside, label_number}
+use Rattle.matching.proofs.StandingLaws.{even_inside, mate_inside, label_told}
 use Rattle.matching.proofs.EnlargeLaws.{enlarge_settled}
 use Rattle.matching.proofs.GrowLaws.{grow_room, grown_stands, search_grows, grow_stands}
 
-module _ (R : List Request) (symmetric : Symmetric (adjacent R)) (r : ℕ) (s : Arrays) (rows : List (List ℕ)) (T : Standing R r s rows)
+module _ (R : List Request) (symmetric : Symmetric (adjacent R)) (r : ℕ) (s : Search) (rows : List (List ℕ)) (T : Standing R r s rows)
     (scanned : ℕ → Bool)
     (S : Searching (adjacent R) (entry (length R) s.mates) T.frozen_label T.frozen_base r T.state scanned)
-    (x y : ℕ) (ex : T.state.label x ≡ Even) (l : y < length R) (f : get_or s.labels y 0 ≡ 0) (a : adjacent R x y ≡ true) where
+    (x y : ℕ) (ex : T.state.label x ≡ Even) (l : y < length R) (f : get_or s.labels y kind.Free ≡ kind.Free)
+    (a : adjacent R x y ≡ true) where
   y_free : T.state.label y ≡ Free
-  unfolding label_of
-  y_free = label_number R s rows T.state T.stands y 0 l f
+  y_free = label_told R s rows T.state T.stands y kind.Free l f
 
   y_covered : (get_or s.mates y 0 ≡ y → ⊥) → eqb (entry (length R) s.mates y) y ≡ false
   y_covered d = ne_eqb (entry (length R) s.mates y) y (λ e. d (sym (entry_inside (length R) s.mates y l) ∙ e))
@@ -46,11 +47,6 @@ module _ (R : List Request) (symmetric : Symmetric (adjacent R)) (r : ℕ) (s : 
     room = attach_room;
     from_row = omega (arith, T.square.many, even_inside R s rows T.state T.stands x ex);
     mate_row = omega (arith, T.square.many, mate_inside R r s rows T y l);
-    mates = T.sized.mates;
-    labels = T.sized.labels;
-    bases = T.sized.bases;
-    parents = T.sized.parents;
-    queue = T.sized.queue;
   }
 
   enlarged_by : get_or s.mates y 0 ≡ y → Settled R (enlarged_arrays s rows x y) (suc r)
@@ -58,7 +54,7 @@ module _ (R : List Request) (symmetric : Symmetric (adjacent R)) (r : ℕ) (s : 
 
   -- no vertex is being scanned
   pub search_attached : (h : ℕ) → h ≤ s.clock → ((z : ℕ) → scanned z ≡ among s.queue h z)
-      → (t : Arrays) (after : List (List ℕ)) (done : Bool)
+      → (t : Search) (after : List (List ℕ)) (done : Bool)
       → Attached s rows x y t after done → SearchOutcome R r t after done (SearchAt R r t after h)
   search_attached h w i t after done (enlarges e d et er) = record {
     square = rw er T.square;
@@ -74,9 +70,9 @@ module _ (R : List Request) (symmetric : Symmetric (adjacent R)) (r : ℕ) (s : 
       }
 
 -- x is being scanned, and y comes next
-pub scan_attached : (R : List Request) → Symmetric (adjacent R) → (r : ℕ) (s : Arrays) (rows : List (List ℕ)) (h x y : ℕ)
+pub scan_attached : (R : List Request) → Symmetric (adjacent R) → (r : ℕ) (s : Search) (rows : List (List ℕ)) (h x y : ℕ)
     → ScanAt R r s rows h x y
-    → y < length R → get_or s.labels y 0 ≡ 0 → adjacent R x y ≡ true → (t : Arrays) (after : List (List ℕ)) (done : Bool)
+    → y < length R → get_or s.labels y kind.Free ≡ kind.Free → adjacent R x y ≡ true → (t : Search) (after : List (List ℕ)) (done : Bool)
     → Attached s rows x y t after done → SearchOutcome R r t after done (ScanAt R r t after h x (y + 1))
 scan_attached R symmetric r s rows h x y at l f a t after done (enlarges e d et er) = record {
   square = rw er at.standing.square;
@@ -98,7 +94,7 @@ scan_attached R symmetric r s rows h x y at l f a t after done (grows c ec n d e
     }
 
 -- what is queued stays where it is
-pub attached_queue : (s : Arrays) (rows : List (List ℕ)) (x y : ℕ) (t : Arrays) (after : List (List ℕ)) (done : Bool)
+pub attached_queue : (s : Search) (rows : List (List ℕ)) (x y : ℕ) (t : Search) (after : List (List ℕ)) (done : Bool)
     → Attached s rows x y t after done
     → (g : ℕ) → g < s.clock → (get_or t.queue g 0 ≡ get_or s.queue g 0) × (g < t.clock)
 attached_queue s rows x y t after done (enlarges e d et er) g l = rw et (refl, l)

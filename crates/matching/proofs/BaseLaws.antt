@@ -9,7 +9,9 @@ use lib.Dec.{eqb}
 use lib.ListN.{length, get_or, set, replicate, length-set}
 use borrow.Author.Tests.{eqb-true, eqb-false, lt-ltb}
 use Rattle.ring.proofs.Cases.{yes, no, is, same, different, test, less, not_less, compare}
-use Rattle.sets.specs.Sets.{has}
+use Rattle.sets.specs.Sets.{has, NoneFrom, Next}
+use Rattle.matching.specs.declared.climbs.Marks.{Marks}
+use Rattle.matching.specs.declared.matchings.Search.{Search}
 use Rattle.matching.specs.Internal.Model.{among}
 use Rattle.matching.specs.Internal.Steps.{base_on, joins_blossom, new_base}
 use Rattle.matching.specs.Internal.Bases.{has_below, Rebased}
@@ -33,14 +35,14 @@ rebased_one b z these bases joined joined' are wide inside words member = record
 }
 
 -- one vertex, by whether its base is on
-module _ (b z : ℕ) (bases on joined : List ℕ) (wide : length bases ≡ 512) where
-  pub vertex_on : (joined' : List ℕ) → eqb (get_or on (get_or bases z 0) 0) 0 ≡ false → z < 512 → length joined' ≡ 8
+module _ (b z : ℕ) (bases : List ℕ) (on : List Bool) (joined : List ℕ) (wide : length bases ≡ 512) where
+  pub vertex_on : (joined' : List ℕ) → get_or on (get_or bases z 0) false ≡ true → z < 512 → length joined' ≡ 8
       → ((y : ℕ) → has joined' y ≡ (eqb y z || has joined y))
       → Rebased b (λ y. eqb y z && base_on bases on z) bases joined (set bases z b) joined'
   vertex_on joined' e =
       rebased_one b z (λ y. eqb y z && base_on bases on z) bases joined joined' (λ y. elim (is (eqb y z)) [ yes t ↦ cc | no t ↦ cc ]) wide
 
-  pub vertex_off : eqb (get_or on (get_or bases z 0) 0) 0 ≡ true → length joined ≡ 8
+  pub vertex_off : get_or on (get_or bases z 0) false ≡ false → length joined ≡ 8
       → Rebased b (λ y. eqb y z && base_on bases on z) bases joined bases joined
   vertex_off e words =
       rebased_none b (λ y. eqb y z && base_on bases on z) bases joined wide words (λ y. elim (is (eqb y z)) [ yes t ↦ cc | no t ↦ cc ])
@@ -75,43 +77,63 @@ queue_test true true false now h = cc (h refl refl)
 queue_test true false true now h = cc (h refl refl)
 queue_test true false false now h = cc (h refl refl)
 
-pub queued_turn : {b : ℕ} {bases joined now joined' : List ℕ} (queue on : List ℕ) (i z : ℕ) → z ≡ get_or queue i 0
+pub queued_turn : {b : ℕ} {bases joined now joined' : List ℕ} (queue : List ℕ) (on : List Bool) (i z : ℕ) → z ≡ get_or queue i 0
     → Rebased b (λ y. among queue i y && base_on bases on y) bases joined now joined'
     → (y : ℕ) → (among queue (i + 1) y && base_on bases on y) ≡ (eqb y z && base_on now on z || among queue i y && base_on bases on y)
 queued_turn {b} {bases} {joined} {now} queue on i z e H y =
     rw add-one (rw (sym e) (queue_test (eqb y z) (among queue i y) (base_on bases on y) (base_on now on z)
     (λ t n. let f : y ≡ z = eqb-true y z t in cc (H.base y))))
 
--- a loop over a set: no vertex before the first one, and one more
-pub below_none : (words : List ℕ) (next : ℕ) → ((k : ℕ) → 0 ≤ k → k < next → has words k ≡ false) → (y : ℕ) → has_below next words y ≡ false
+-- a walk over a set: its next vertex, and the vertices from the last one on
+pub below_step : {words : List ℕ} {from end z : ℕ} → Next words from end z → (y : ℕ)
+    → has_below (z + 1) words y ≡ (eqb y z || has_below from words y)
 unfolding has_below
-below_none words next none y = elim (compare y next) [ less l k ↦ cc (none y (omega arith) l) | not_less l k ↦ cc ]
-
-pub below_turn : (words : List ℕ) (z next : ℕ) → z + 1 ≤ next → has words z ≡ true → ((k : ℕ) → z + 1 ≤ k → k < next → has words k ≡ false)
-    → (y : ℕ) → has_below next words y ≡ (eqb y z || has_below z words y)
-unfolding has_below
-below_turn words z next l h none y = elim (test y z) [
-  | same e t ↦ cc (lt-ltb y next (omega arith))
-  | different d ↦ elim (compare y z) [
-    | less a b ↦ cc (lt-ltb y next (omega arith), d.left)
-    | not_less a b ↦ elim (compare y next) [
-      | less i j ↦ cc (d.left, none y (omega (arith, eqb-false y z d.left)) i)
+below_step {words} {from} {end} {z} N y = elim (test y z) [
+  | same e t ↦ cc (lt-ltb y (z + 1) (omega arith), N.member)
+  | different d ↦ elim (compare y from) [
+    | less a b ↦ cc (lt-ltb y (z + 1) (omega (arith, N.least)), d.left)
+    | not_less a b ↦ elim (compare y (z + 1)) [
+      | less i j ↦ cc (d.left, N.passed y a (omega (arith, eqb-false y z d.left)))
       | not_less i j ↦ cc d.left
     ]
   ]
 ]
 
--- after the queued vertices and those of the cycle
-module _ (m b : ℕ) (bases queue cycle on : List ℕ) (clock : ℕ) {middle joined after joined' : List ℕ}
-    (first : Rebased b (λ z. among queue clock z && base_on bases on z) bases (replicate 8 0) middle joined)
-    (second : Rebased b (has_below m cycle) middle joined after joined') where
-  whole : Rebased b (λ z. has_below m cycle z || among queue clock z && base_on bases on z) bases (replicate 8 0) after joined'
-  whole = rebased_more (λ z. has_below m cycle z || among queue clock z && base_on bases on z) first second (λ y. refl)
+pub below_end : (words : List ℕ) (from end : ℕ) → NoneFrom words from end → from ≤ end → (y : ℕ)
+    → has_below end words y ≡ has_below from words y
+unfolding has_below
+below_end words from end none l y = elim (compare y from) [
+  | less a b ↦ cc (lt-ltb y end (omega arith))
+  | not_less a b ↦ elim (compare y end) [ less i j ↦ cc (none y a i) | not_less i j ↦ cc ]
+]
 
-  pub rebased_base : (z : ℕ) → z < m → get_or after z 0 ≡ new_base bases queue clock cycle on b z
+pub below_zero : (words : List ℕ) (y : ℕ) → has_below 0 words y ≡ false
+unfolding has_below
+below_zero words y = elim (compare y 0) [ less l k ↦ absurd (omega arith) | not_less l k ↦ cc ]
+
+-- the same vertices
+pub rebased_alike : {b : ℕ} {given : ℕ → Bool} {bases joined after joined' : List ℕ} (given' : ℕ → Bool)
+    → Rebased b given bases joined after joined' → ((y : ℕ) → given' y ≡ given y) → Rebased b given' bases joined after joined'
+rebased_alike given' H alike = record {
+  bases_length = H.bases_length;
+  joined_length = H.joined_length;
+  base = λ y. cc (alike y, H.base y);
+  member = λ y. cc (alike y, H.member y);
+}
+
+-- after the queued vertices and those of the cycle
+module _ (m b : ℕ) (s : Search) (marks : Marks) {middle joined after joined' : List ℕ}
+    (first : Rebased b (λ z. among s.queue s.clock z && base_on s.bases marks.on z) s.bases (replicate 8 0) middle joined)
+    (second : Rebased b (has_below m marks.cycle) middle joined after joined') where
+  whole : Rebased b (λ z. has_below m marks.cycle z || among s.queue s.clock z && base_on s.bases marks.on z) s.bases (replicate 8 0)
+      after joined'
+  whole =
+      rebased_more (λ z. has_below m marks.cycle z || among s.queue s.clock z && base_on s.bases marks.on z) first second (λ y. refl)
+
+  pub rebased_base : (z : ℕ) → z < m → get_or after z 0 ≡ new_base s marks b z
   unfolding new_base joins_blossom has_below
   rebased_base z l = cc (whole.base z, lt-ltb z m l)
 
-  pub rebased_joined : (z : ℕ) → z < m → joins_blossom bases queue clock cycle on z ≡ true → has joined' z ≡ true
+  pub rebased_joined : (z : ℕ) → z < m → joins_blossom s marks z ≡ true → has joined' z ≡ true
   unfolding joins_blossom has_below
   rebased_joined z l j = cc (whole.member z, lt-ltb z m l)

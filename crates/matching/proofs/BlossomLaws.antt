@@ -6,7 +6,7 @@ use mathlib.Core.List.{List, []}
 use native.Mathlib.Numerals.{add-one}
 use native.Mathlib.Omega.{arith}
 use lib.ListN.{length, get_or}
-use borrow.Author.Tests.{eqb-true, lt-ltb}
+use borrow.Author.Tests.{lt-ltb}
 use Rattle.ring.specs.declared.requests.Request.{Request}
 use Rattle.ring.proofs.Cases.{yes, no, is, same, different, test, less, not_less, compare, impossible}
 use Rattle.ring.proofs.Counting.{count, bit, sum_ext, sum_add, count_le, count_true, count_split}
@@ -17,17 +17,21 @@ use Rattle.blossom.proofs.LabelLaws.{is_free, is_even, is_odd, is_frozen, label_
 use Rattle.blossom.proofs.Shrunk.{merged, shrunk, NewOrders}
 use Rattle.blossom.proofs.Cycle.{cycle, cycle_odd}
 use Rattle.blossom.proofs.Scanning.{scan_blossom}
-use Rattle.matching.specs.Internal.Arrays.{Arrays, arrays}
+use Rattle.matching.specs.declared.labels.VertexLabel.{VertexLabel}
+use Rattle.matching.specs.declared.labels.VertexLabel.TheVariants as kind
+use Rattle.matching.specs.declared.climbs.Marks.{Marks}
+use Rattle.matching.specs.declared.climbs.Side.{Side}
+use Rattle.matching.specs.declared.matchings.Search.{Search}
 use Rattle.matching.specs.Internal.Adjacency.{adjacent}
-use Rattle.matching.specs.Internal.Model.{entry, row_at, label_of, label_at, settled_of, settled_at, among}
-use Rattle.matching.specs.Internal.Climbs.{Marks}
+use Rattle.matching.specs.Internal.Model.{entry, row_at, label_at, settled_at, among}
 use Rattle.matching.specs.Internal.Rows.{cell, Absorbed}
 use Rattle.matching.specs.Internal.Search.{Square, Stands, Standing, ScanAt}
-use Rattle.matching.specs.Internal.Steps.{on_cycle, joins_blossom, new_base, Promoted}
+use Rattle.matching.specs.Internal.Steps.{on_cycle, joins_blossom, new_base, with_bases, with_queue, Promoted}
 use Rattle.matching.proofs.ModelLaws.{entry_inside}
 use Rattle.matching.proofs.StandingLaws.{count_room, even_inside, odd_inside, entry_outside, unfrozen}
 use Rattle.matching.proofs.ClosingLaws.{Closed}
-use Rattle.matching.proofs.CycleLaws.{is_even_number, on_cycle_lem, side_first, side_second}
+use Rattle.matching.proofs.LabellingLaws.{even_only}
+use Rattle.matching.proofs.CycleLaws.{on_cycle_lem, side_first, side_second}
 use Rattle.matching.proofs.CycleLaws.{absorbed_inside, absorbed_outside, label_inside}
 
 -- a set with a member below m is not empty
@@ -39,7 +43,7 @@ pub among_same : (q q' : List ℕ) (k : ℕ) → ((i : ℕ) → i < k → get_or
 among_same q q' Prim.Native.Nat.zero e z = refl
 among_same q q' (suc k) e z = cc (e k (omega arith), among_same q q' k (λ i h. e i (omega arith)) z)
 
-module _ (R : List Request) (symmetric : Symmetric (adjacent R)) (r : ℕ) (s : Arrays) (rows : List (List ℕ)) (h x y : ℕ)
+module _ (R : List Request) (symmetric : Symmetric (adjacent R)) (r : ℕ) (s : Search) (rows : List (List ℕ)) (h x y : ℕ)
     {k : ℕ} {found : Marks} (C : Closed R r s rows h x y k found) where
   abbrev m : ℕ
   m = length R
@@ -50,7 +54,7 @@ module _ (R : List Request) (symmetric : Symmetric (adjacent R)) (r : ℕ) (s : 
   abbrev state : State
   state = C.at.standing.state
 
-  abbrev sides : List ℕ
+  abbrev sides : List Side
   sides = found.sides
 
   abbrev M : ℕ → ℕ
@@ -96,7 +100,7 @@ module _ (R : List Request) (symmetric : Symmetric (adjacent R)) (r : ℕ) (s : 
 
   -- the class of the blossom
   pub joins_is : (z : ℕ) → z < m
-      → joins_blossom s.bases s.queue s.clock found.cycle found.bases_on z
+      → joins_blossom s found z
       ≡ (A z || even? (state.label z) && A (M (state.base z)))
   unfolding joins_blossom
   joins_is z l =
@@ -106,10 +110,11 @@ module _ (R : List Request) (symmetric : Symmetric (adjacent R)) (r : ℕ) (s : 
   module _ (rows' : List (List ℕ)) (square : Square (length R) rows')
       (absorbed : Absorbed m rows rows' s.labels s.mates found.sides x y)
       (bases : List ℕ) (bases_length : length bases ≡ 512)
-      (based : (z : ℕ) → z < m → get_or bases z 0 ≡ new_base s.bases s.queue s.clock found.cycle found.bases_on k z)
-      (labels' queue' : List ℕ) (clock' : ℕ) (P : Promoted m m found.sides s.labels s.queue s.clock labels' queue' clock') where
-    abbrev t : Arrays
-    t = arrays s.mates labels' bases s.parents queue' clock'
+      (based : (z : ℕ) → z < m → get_or bases z 0 ≡ new_base s found k z)
+      (labels' : List VertexLabel) (queue' : List ℕ) (clock' : ℕ)
+      (P : Promoted m m found.sides s.labels s.queue s.clock labels' queue' clock') where
+    abbrev t : Search
+    t = with_queue (with_bases s bases) labels' queue' clock'
 
     abbrev p : ℕ → ℕ
     p v = cond (below M state v x) x y
@@ -127,14 +132,14 @@ module _ (R : List Request) (symmetric : Symmetric (adjacent R)) (r : ℕ) (s : 
     k_inside = even_inside R s rows state T.stands k k_even
 
     label_after : (z : ℕ) → after.label z ≡ label_at m t.labels z
-    unfolding label_at label_of
+    unfolding label_at
     label_after z = let e = on z in let l = T.stands.label_is z in let g = P.label z in elim (is (A z)) [
       | yes f ↦ cc (lt-ltb z m (odd_inside R s rows state T.stands z (odd_on z f)))
       | no f ↦ cc
     ]
 
     settled_after : (z : ℕ) → T.frozen_label z ≡ settled_at m t.labels z
-    unfolding settled_at settled_of
+    unfolding settled_at
     settled_after z = let e = on z in let l = T.frozen_label_is z in let g = P.label z in elim (is (A z)) [
       | yes f ↦ cc (
         lt-ltb z m (odd_inside R s rows state T.stands z (odd_on z f)),
@@ -194,8 +199,8 @@ module _ (R : List Request) (symmetric : Symmetric (adjacent R)) (r : ℕ) (s : 
       | no f ↦
           let ea : state.label a ≡ Even = cc in
           let ha = even_inside R s rows state T.stands a ea in
-          let n : get_or s.labels a 0 ≡ 1 = eqb-true (get_or s.labels a 0) 1
-          (cc (label_inside R r s rows state T.stands I a ha, is_even_number (get_or s.labels a 0))) in
+          let n : get_or s.labels a kind.Free ≡ kind.Even =
+          even_only (get_or s.labels a kind.Free) (cc (label_inside R r s rows state T.stands I a ha)) in
           cc (absorbed.kept a (omega (arith, T.sized.few)) n, T.stands.row_is a z ea)
       | yes f ↦ elim (compare z m) [
         | less l i ↦ cc (cell_after a z f l, entry_inside m (get_or rows' a []) z l)

@@ -1,47 +1,49 @@
 -- Once every exposed request is frozen, labels and bases are the certificate that the promise of `maximum` states.
 use Prim.Native.Nat.{ℕ, ◌<◌}
-use mathlib.Core.Path.{◌≡◌, sym, ap, ◌∙◌}
+use mathlib.Core.Path.{◌≡◌, refl, sym, ap, ◌∙◌}
+use mathlib.Core.Bool.{false}
 use mathlib.Core.List.{List}
 use mathlib.Core.Logic.{inl, inr}
-use native.Mathlib.Omega.{arith}
 use lib.ListN.{length, get_or}
 use borrow.Author.Tests.{eqb-false, ne_eqb, lt-ltb}
 use Rattle.ring.specs.declared.requests.Request.{Request}
 use Rattle.ring.specs.Requests.{request}
 use Rattle.ring.specs.Chords.{compatible}
-use Rattle.ring.proofs.Cases.{yes, no, is, same, different, test, less, not_less, compare, impossible}
+use Rattle.ring.proofs.Cases.{yes, no, is, same, different, test, impossible}
 use Rattle.blossom.specs.Internal.Labels.{Free, Even, Odd}
+use Rattle.matching.specs.declared.labels.VertexLabel.{VertexLabel}
+use Rattle.matching.specs.declared.labels.VertexLabel.TheVariants as kind
 use Rattle.matching.specs.declared.matchings.Matching.{Matching}
-use Rattle.matching.specs.Maximum.{mate, label, base, IsFree, IsEven, IsOdd, Certified}
+use Rattle.matching.specs.Maximum.{mate, label, base, is_frozen, IsFree, IsEven, IsOdd, Certified}
 use Rattle.matching.specs.Internal.Arrays.{rest}
 use Rattle.matching.specs.Internal.Model.{entry, settled_of, settled_at}
 use Rattle.matching.specs.Internal.Search.{Settled}
 use Rattle.matching.proofs.AdjacencyLaws.{adjacent_if, mates_inside}
 use Rattle.matching.proofs.ModelLaws.{entry_inside}
 
--- a label between searches, by its number
-data Settles (n : ℕ) : Type 0 where
-  free : n < 3 → settled_of n ≡ Free → Settles n
-  even : n ≡ 3 → settled_of n ≡ Even → Settles n
-  odd : 3 < n → settled_of n ≡ Odd → Settles n
+-- a label between searches
+data Settles (l : VertexLabel) : Type 0 where
+  free : is_frozen l ≡ false → settled_of l ≡ Free → Settles l
+  even : l ≡ kind.FrozenEven → settled_of l ≡ Even → Settles l
+  odd : l ≡ kind.FrozenOdd → settled_of l ≡ Odd → Settles l
 
-settles : (n : ℕ) → Settles n
-unfolding settled_of
-settles n = elim (compare n 3) [
-  | less h e ↦ free h (cc)
-  | not_less h e ↦ elim (test n 3) [
-    | same f g ↦ even f (cc)
-    | different f ↦ odd (omega (arith, eqb-false n 3 f.left)) (cc f.left)
-  ]
-]
+settles : (l : VertexLabel) → Settles l
+settles kind.Free = free refl refl
+settles kind.Even = free refl refl
+settles kind.Odd = free refl refl
+settles kind.FrozenEven = even refl refl
+settles kind.FrozenOdd = odd refl refl
 
-is_settled_free : (n : ℕ) → settled_of n ≡ Free → n < 3
-is_settled_free n e = elim (settles n) [ free h f ↦ h | even h f ↦ impossible (cc) | odd h f ↦ impossible (cc) ]
+settles_free : (l : VertexLabel) → is_frozen l ≡ false → settled_of l ≡ Free
+settles_free l e = elim (settles l) [ free h f ↦ f | even h f ↦ impossible (cc) | odd h f ↦ impossible (cc) ]
 
-is_settled_even : (n : ℕ) → settled_of n ≡ Even → n ≡ 3
-is_settled_even n e = elim (settles n) [ free h f ↦ impossible (cc) | even h f ↦ h | odd h f ↦ impossible (cc) ]
+is_settled_free : (l : VertexLabel) → settled_of l ≡ Free → is_frozen l ≡ false
+is_settled_free l e = elim (settles l) [ free h f ↦ h | even h f ↦ impossible (cc) | odd h f ↦ impossible (cc) ]
 
-settled_at_inside : (m : ℕ) (l : List ℕ) (z : ℕ) → z < m → settled_at m l z ≡ settled_of (get_or l z 0)
+is_settled_even : (l : VertexLabel) → settled_of l ≡ Even → l ≡ kind.FrozenEven
+is_settled_even l e = elim (settles l) [ free h f ↦ impossible (cc) | even h f ↦ h | odd h f ↦ impossible (cc) ]
+
+settled_at_inside : (m : ℕ) (l : List VertexLabel) (z : ℕ) → z < m → settled_at m l z ≡ settled_of (get_or l z kind.Free)
 unfolding settled_at
 settled_at_inside m l z h = cc (lt-ltb z m h)
 
@@ -62,16 +64,13 @@ module _ (R : List Request) (s : Matching) (S : Settled R (rest s.mates s.labels
   label_is x h = S.label_is x ∙ settled_at_inside (length R) s.labels x h
 
   free_label : (x : ℕ) → x < length R → IsFree s x → S.label x ≡ Free
-  free_label x h l =
-      label_is x h ∙ elim (settles (label s x)) [ free k f ↦ f | even k f ↦ absurd (omega arith) | odd k f ↦ absurd (omega arith) ]
+  free_label x h l = label_is x h ∙ settles_free (label s x) l
 
   even_label : (x : ℕ) → x < length R → IsEven s x → S.label x ≡ Even
-  even_label x h l =
-      label_is x h ∙ elim (settles (label s x)) [ free k f ↦ absurd (omega arith) | even k f ↦ f | odd k f ↦ absurd (omega arith) ]
+  even_label x h l = label_is x h ∙ ap settled_of l
 
   odd_label : (x : ℕ) → x < length R → IsOdd s x → S.label x ≡ Odd
-  odd_label x h l =
-      label_is x h ∙ elim (settles (label s x)) [ free k f ↦ absurd (omega arith) | even k f ↦ absurd (omega arith) | odd k f ↦ f ]
+  odd_label x h l = label_is x h ∙ ap settled_of l
 
   -- the label of the mate, as the theory has it
   mate_label : (x : ℕ) → x < length R → settled_of (label s (mate s x)) ≡ S.label (M x)
@@ -88,7 +87,7 @@ module _ (R : List Request) (s : Matching) (S : Settled R (rest s.mates s.labels
     even_free = λ x y h k e f. elim (is (compatible (request R x) (request R y))) [
       | no g ↦ g
       | yes g ↦
-          let apart = ne_eqb x y (λ p. omega (arith, ap (label s) p)) in
+          let apart = ne_eqb x y (λ p. impossible (sym (ap is_frozen (sym (ap (label s) p) ∙ e)) ∙ f)) in
           impossible (cc (C.even_free x y (even_label x h e) (free_label y k f), adjacent_if R x y apart h k g))
     ];
     even_even = λ x y h k e f g. elim (test x y) [

@@ -1,38 +1,28 @@
--- The loop that counts the pairs of a list of mates.
-use Prim.Native.Nat.{ℕ, ◌+◌, ◌≤◌, ◌<◌}
-use mathlib.Core.Path.{◌≡◌, refl, sym, ◌∙◌, ap}
-use mathlib.Core.Bool.{Bool, true, false}
-use mathlib.Core.List.{List, ◌∷◌}
-use native.Mathlib.Omega.{arith}
+-- How many pairs a list of mates has.
+use Prim.Native.Nat.{ℕ, suc, ◌+◌}
+use mathlib.Core.Path.{◌≡◌, refl, ap}
+use mathlib.Core.Bool.{Bool, true, false, cond}
+use mathlib.Core.List.{List, [], ◌∷◌, ◌++◌}
 use lib.Dec.{ltb}
-use lib.ListN.{length, get_or, take, drop, drop_of_length-le, length-append}
-use lib.Seq.{get_or-take, length-take-le}
-use Rattle.ring.proofs.Counting.{bit}
-use Rattle.ring.proofs.ListLaws.{drop_next}
+use lib.ListN.{length, take}
+use Rattle.std.specs.Prelude.{filter}
+use Rattle.std.specs.List.{enumerate_from}
+use Rattle.ring.specs.Matchings.{Pair}
 use Rattle.matching.specs.Maximum.{lower_pair, pairs_from, pairs_of}
 
-lower_pair_lem : (t : Bool) (i j : ℕ) → length (lower_pair t i j) ≡ bit t
-lower_pair_lem true i j = refl
-lower_pair_lem false i j = refl
+-- a request and its mate, where the request is the lower-numbered one
+abbrev pub is_lower : ℕ × ℕ → Bool
+is_lower p = ltb p.0 p.1
 
-module _ (mates : List ℕ) (m i : ℕ) (h : m ≤ length mates) where
-  -- one request more: it is counted if it is below its mate
-  pub count_turn : (t : Bool) (k : ℕ) → i < m → t ≡ ltb i (get_or mates i 0)
-      → k + length (pairs_from i (drop i (take m mates))) ≡ length (pairs_of m mates)
-      → k + bit t + length (pairs_from (i + 1) (drop (i + 1) (take m mates))) ≡ length (pairs_of m mates)
-  count_turn t k l e inv =
-      let inside : i < length (take m mates) = rw length-take-le l in
-      let cut : drop i (take m mates) ≡ get_or mates i 0 ∷ drop (i + 1) (take m mates) = rw
-      (drop_next (take m mates) i 0, get_or-take m mates i 0 l) in
-      let rest = pairs_from (i + 1) (drop (i + 1) (take m mates)) in
-      let step : length (pairs_from i (drop i (take m mates))) ≡ bit t + length rest =
-      ap (λ (l : List ℕ). length (pairs_from i l)) cut ∙ length-append (lower_pair (ltb i (get_or mates i 0)) i (get_or mates i 0)) rest
-      ∙ ap (λ (k : ℕ). k + length rest) (lower_pair_lem (ltb i (get_or mates i 0)) i (get_or mates i 0) ∙ ap bit (sym e)) in
-      omega arith
+pairs_from_lem : (t : Bool) (i j : ℕ) (pairs : List Pair) (rest : List (ℕ × ℕ)) → length pairs ≡ length rest
+    → length (lower_pair t i j ++ pairs) ≡ length (cond t ((i, j) ∷ rest) rest)
+pairs_from_lem true i j pairs rest e = ap (λ (n : ℕ). suc n) e
+pairs_from_lem false i j pairs rest e = e
 
-  pub count_ended : (k : ℕ) → m ≤ i → k + length (pairs_from i (drop i (take m mates))) ≡ length (pairs_of m mates)
-      → k ≡ length (pairs_of m mates)
-  count_ended k l inv =
-      let past : length (take m mates) ≤ i = rw length-take-le l in
-      let none : length (pairs_from i (drop i (take m mates))) ≡ 0 = rw (drop_of_length-le (take m mates) past) in
-      omega arith
+counted_from : (i : ℕ) (mates : List ℕ) → length (pairs_from i mates) ≡ length (filter is_lower (enumerate_from i mates))
+counted_from i [] = refl
+counted_from i (j ∷ mates) = pairs_from_lem (ltb i j) i j _ _ (counted_from (i + 1) mates)
+
+pub pairs_counted : (m : ℕ) (mates : List ℕ) → length (pairs_of m mates) ≡ length (filter is_lower (enumerate_from 0 (take m mates)))
+unfolding pairs_of
+pairs_counted m mates = counted_from 0 (take m mates)

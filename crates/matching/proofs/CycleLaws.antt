@@ -6,63 +6,34 @@ use mathlib.Core.List.{List, []}
 use native.Mathlib.Omega.{arith}
 use lib.Dec.{eqb, ltb}
 use lib.ListN.{length, get_or}
-use borrow.Author.Tests.{eqb-true, ne_eqb, lt-ltb}
+use borrow.Author.Tests.{ne_eqb, lt-ltb}
 use Rattle.ring.specs.declared.requests.Request.{Request}
 use Rattle.ring.proofs.Cases.{yes, no, is, three, less, not_less, compare, impossible}
-use Rattle.blossom.specs.Internal.Labels.{Free, Even, even?, odd?}
+use Rattle.blossom.specs.Internal.Labels.{Even, odd?}
 use Rattle.blossom.specs.Internal.State.{State, below, Invariant}
 use Rattle.blossom.proofs.LabelLaws.{is_free, is_even, is_odd, is_frozen, label_case}
 use Rattle.blossom.proofs.Absorb.{absorbed_row}
 use Rattle.blossom.proofs.Cycle.{cycle}
-use Rattle.matching.specs.Internal.Arrays.{Arrays}
+use Rattle.matching.specs.declared.labels.VertexLabel.TheVariants as kind
+use Rattle.matching.specs.declared.climbs.Side.{Side}
+use Rattle.matching.specs.declared.climbs.Side.TheVariants.{Neither, First, Second}
+use Rattle.matching.specs.declared.matchings.Search.{Search}
 use Rattle.matching.specs.Internal.Adjacency.{adjacent}
 use Rattle.matching.specs.Internal.Model.{entry, label_of}
 use Rattle.matching.specs.Internal.Rows.{cell, below_in, absorbed_entry}
 use Rattle.matching.specs.Internal.Search.{Stands}
-use Rattle.matching.specs.Internal.Steps.{on_cycle}
+use Rattle.matching.specs.Internal.Steps.{off_cycle, on_cycle}
 use Rattle.matching.proofs.ModelLaws.{entry_inside, label_at_inside}
 use Rattle.matching.proofs.StandingLaws.{even_inside, odd_inside, entry_outside}
 
--- on which side of the edge from x to y the cycle has a vertex: 0 on none, 1 above x alone, 2 above y alone; by whether it is odd, above x
--- and above y
-abbrev pub side : Bool → Bool → Bool → ℕ
-side o a b = cond o (cond a (cond b 0 1) (cond b 2 0)) 0
+-- on which side of the edge from x to y the cycle has a vertex, by whether it is odd, above x and above y
+abbrev pub side : Bool → Bool → Bool → Side
+side o a b = cond o (cond a (cond b Neither First) (cond b Second Neither)) Neither
 
-abbrev pub side_of : (ℕ → ℕ) → State → ℕ → ℕ → ℕ → ℕ
+abbrev pub side_of : (ℕ → ℕ) → State → ℕ → ℕ → ℕ → Side
 side_of M state x y v = side (odd? (state.label v)) (below M state v x) (below M state v y)
 
--- the number of a label
-pub is_odd_number : (n : ℕ) → odd? (label_of n) ≡ eqb n 2
-unfolding label_of
-is_odd_number n = elim (is (eqb n 0)) [
-  | yes e ↦ cc (eqb-true n 0 e)
-  | no e ↦ elim (is (eqb n 1)) [
-    | yes f ↦ cc (eqb-true n 1 f)
-    | no f ↦ elim (is (eqb n 2)) [ yes g ↦ cc | no g ↦ cc ]
-  ]
-]
-
-pub is_even_number : (n : ℕ) → even? (label_of n) ≡ eqb n 1
-unfolding label_of
-is_even_number n = elim (is (eqb n 0)) [
-  | yes e ↦ cc (eqb-true n 0 e)
-  | no e ↦ elim (is (eqb n 1)) [
-    | yes f ↦ cc
-    | no f ↦ elim (is (eqb n 2)) [ yes g ↦ cc | no g ↦ cc ]
-  ]
-]
-
-pub is_free_number : (n : ℕ) → label_of n ≡ Free → eqb n 0 ≡ true
-unfolding label_of
-is_free_number n h = elim (is (eqb n 0)) [
-  | yes e ↦ e
-  | no e ↦ elim (is (eqb n 1)) [
-    | yes f ↦ cc
-    | no f ↦ elim (is (eqb n 2)) [ yes g ↦ cc | no g ↦ cc ]
-  ]
-]
-
-module _ (R : List Request) (r : ℕ) (s : Arrays) (rows : List (List ℕ)) (state : State) (S : Stands R s rows state)
+module _ (R : List Request) (r : ℕ) (s : Search) (rows : List (List ℕ)) (state : State) (S : Stands R s rows state)
     (I : Invariant (adjacent R) (entry (length R) s.mates) r state) where
   abbrev m : ℕ
   m = length R
@@ -76,7 +47,7 @@ module _ (R : List Request) (r : ℕ) (s : Arrays) (rows : List (List ℕ)) (sta
   pub row_outside : (x z : ℕ) → state.label x ≡ Even → ltb z m ≡ false → state.row x z ≡ z
   row_outside x z e h = S.row_is x z e ∙ entry_outside m (get_or rows x []) z h
 
-  pub label_inside : (z : ℕ) → z < m → state.label z ≡ label_of (get_or s.labels z 0)
+  pub label_inside : (z : ℕ) → z < m → state.label z ≡ label_of (get_or s.labels z kind.Free)
   label_inside z h = S.label_is z ∙ label_at_inside m s.labels z h
 
   pub below_arrays : (v z : ℕ) → v < m → z < m → below_in rows s.labels s.mates v z ≡ below M state v z
@@ -94,8 +65,8 @@ module _ (R : List Request) (r : ℕ) (s : Arrays) (rows : List (List ℕ)) (sta
   row_below x v ex h = let e = row_cell x v ex h in let f = entry_inside m s.mates v h in
       elim (is (eqb (cell rows x v) (get_or s.mates v 0))) [ yes g ↦ cc | no g ↦ cc ]
 
-  module _ (x y : ℕ) (sides : List ℕ) (sided : (v : ℕ) → v < m → get_or sides v 0 ≡ side_of M state x y v) where
-    some_side : (o a b : Bool) → not (eqb (side o a b) 0) ≡ (o && xor a b)
+  module _ (x y : ℕ) (sides : List Side) (sided : (v : ℕ) → v < m → get_or sides v Neither ≡ side_of M state x y v) where
+    some_side : (o a b : Bool) → not (off_cycle (side o a b)) ≡ (o && xor a b)
     unfolding xor
     some_side true true true = refl
     some_side true true false = refl
@@ -118,55 +89,55 @@ module _ (R : List Request) (r : ℕ) (s : Arrays) (rows : List (List ℕ)) (sta
         outside : (v : ℕ) → m ≤ v → v < m → ⊥
         outside v h k = omega arith
 
-    first_side : (o a b : Bool) → (o && xor a b) ≡ true → a ≡ true → side o a b ≡ 1
+    first_side : (o a b : Bool) → (o && xor a b) ≡ true → a ≡ true → side o a b ≡ First
     unfolding xor
     first_side true true true e f = cc
     first_side true true false e f = refl
     first_side true false b e f = cc
     first_side false a b e f = cc
 
-    second_side : (o a b : Bool) → (o && xor a b) ≡ true → a ≡ false → side o a b ≡ 2
+    second_side : (o a b : Bool) → (o && xor a b) ≡ true → a ≡ false → side o a b ≡ Second
     unfolding xor
     second_side true true b e f = cc
     second_side true false true e f = refl
     second_side true false false e f = cc
     second_side false a b e f = cc
 
-    pub side_first : (v : ℕ) → v < m → cycle M state x y v ≡ true → below M state v x ≡ true → get_or sides v 0 ≡ 1
+    pub side_first : (v : ℕ) → v < m → cycle M state x y v ≡ true → below M state v x ≡ true → get_or sides v Neither ≡ First
     side_first v h a b = sided v h ∙ first_side (odd? (state.label v)) (below M state v x) (below M state v y) a b
 
-    pub side_second : (v : ℕ) → v < m → cycle M state x y v ≡ true → below M state v x ≡ false → get_or sides v 0 ≡ 2
+    pub side_second : (v : ℕ) → v < m → cycle M state x y v ≡ true → below M state v x ≡ false → get_or sides v Neither ≡ Second
     side_second v h a b = sided v h ∙ second_side (odd? (state.label v)) (below M state v x) (below M state v y) a b
 
     -- and what a side says
-    one_side : (o a b : Bool) → side o a b ≡ 1 → three o a b ≡ three true true false
+    one_side : (o a b : Bool) → side o a b ≡ First → three o a b ≡ three true true false
     one_side true true true e = cc
     one_side true true false e = refl
     one_side true false true e = cc
     one_side true false false e = cc
     one_side false a b e = cc
 
-    two_side : (o a b : Bool) → side o a b ≡ 2 → three o a b ≡ three true false true
+    two_side : (o a b : Bool) → side o a b ≡ Second → three o a b ≡ three true false true
     two_side true true true e = cc
     two_side true true false e = cc
     two_side true false true e = refl
     two_side true false false e = cc
     two_side false a b e = cc
 
-    pub side_one : (v : ℕ) → v < m → get_or sides v 0 ≡ 1
+    pub side_one : (v : ℕ) → v < m → get_or sides v Neither ≡ First
         → three (odd? (state.label v)) (below M state v x) (below M state v y) ≡ three true true false
     side_one v h e = one_side (odd? (state.label v)) (below M state v x) (below M state v y) (sym (sided v h) ∙ e)
 
-    pub side_two : (v : ℕ) → v < m → get_or sides v 0 ≡ 2
+    pub side_two : (v : ℕ) → v < m → get_or sides v Neither ≡ Second
         → three (odd? (state.label v)) (below M state v x) (below M state v y) ≡ three true false true
     side_two v h e = two_side (odd? (state.label v)) (below M state v x) (below M state v y) (sym (sided v h) ∙ e)
 
     -- only an odd vertex has a side
-    side_none : (o a b : Bool) → o ≡ false → side o a b ≡ 0
+    side_none : (o a b : Bool) → o ≡ false → side o a b ≡ Neither
     side_none true a b e = cc
     side_none false a b e = refl
 
-    pub side_of_other : (v : ℕ) → v < m → odd? (state.label v) ≡ false → get_or sides v 0 ≡ 0
+    pub side_of_other : (v : ℕ) → v < m → odd? (state.label v) ≡ false → get_or sides v Neither ≡ Neither
     side_of_other v h e = sided v h ∙ side_none (odd? (state.label v)) (below M state v x) (below M state v y) e
 
   -- an absorbed row, entry by entry

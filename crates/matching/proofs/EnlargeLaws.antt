@@ -14,7 +14,7 @@ use Rattle.blossom.specs.Internal.Searches.{Searching}
 use Rattle.blossom.proofs.LabelLaws.{apart_by_even}
 use Rattle.blossom.proofs.RowLaws.{paired}
 use Rattle.blossom.proofs.Augment.{augments}
-use Rattle.matching.specs.Internal.Arrays.{Arrays}
+use Rattle.matching.specs.declared.matchings.Search.{Search}
 use Rattle.matching.specs.Internal.Adjacency.{adjacent}
 use Rattle.matching.specs.Internal.Model.{entry}
 use Rattle.matching.specs.Internal.Search.{Standing, Settled}
@@ -37,7 +37,7 @@ paired_entry m l x y z h hx hy d =
       | different e ↦ cc
     ]
 
-module _ (R : List Request) (symmetric : Symmetric (adjacent R)) (r : ℕ) (s : Arrays) (rows : List (List ℕ)) (T : Standing R r s rows)
+module _ (R : List Request) (symmetric : Symmetric (adjacent R)) (r : ℕ) (s : Search) (rows : List (List ℕ)) (T : Standing R r s rows)
     (scanned : ℕ → Bool)
     (S : Searching (adjacent R) (entry (length R) s.mates) T.frozen_label T.frozen_base r T.state scanned)
     (x y : ℕ) (ex : T.state.label x ≡ Even) (hy : y < length R) (fy : T.state.label y ≡ Free)

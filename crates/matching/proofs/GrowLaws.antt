@@ -20,9 +20,10 @@ use Rattle.blossom.proofs.LabelLaws.{apart_by_even}
 use Rattle.blossom.proofs.RowLaws.{grown_row_lem}
 use Rattle.blossom.proofs.Grow.{grown}
 use Rattle.blossom.proofs.Scanning.{search_grow, scan_grow}
-use Rattle.matching.specs.Internal.Arrays.{Arrays}
+use Rattle.matching.specs.declared.labels.VertexLabel.TheVariants as kind
+use Rattle.matching.specs.declared.matchings.Search.{Search}
 use Rattle.matching.specs.Internal.Adjacency.{adjacent}
-use Rattle.matching.specs.Internal.Model.{entry, row_at, label_of, label_at, settled_of, settled_at, among}
+use Rattle.matching.specs.Internal.Model.{entry, row_at, label_at, settled_at, among}
 use Rattle.matching.specs.Internal.Search.{Stands, Standing, SearchAt, ScanAt}
 use Rattle.matching.specs.Internal.Steps.{grown_row, grown_arrays}
 use Rattle.matching.proofs.ModelLaws.{entry_inside, entry_set, label_at_set, settled_at_set, among_set, among_add}
@@ -49,7 +50,7 @@ grown_entry m l x y c z h hx hy hc d =
       | different e ↦ cc
     ]
 
-module _ (R : List Request) (symmetric : Symmetric (adjacent R)) (r : ℕ) (s : Arrays) (rows : List (List ℕ)) (T : Standing R r s rows)
+module _ (R : List Request) (symmetric : Symmetric (adjacent R)) (r : ℕ) (s : Search) (rows : List (List ℕ)) (T : Standing R r s rows)
     (scanned : ℕ → Bool)
     (S : Searching (adjacent R) (entry (length R) s.mates) T.frozen_label T.frozen_base r T.state scanned)
     (x y : ℕ) (x_even : T.state.label x ≡ Even) (hy : y < length R) (fy : T.state.label y ≡ Free)
@@ -90,13 +91,12 @@ module _ (R : List Request) (symmetric : Symmetric (adjacent R)) (r : ℕ) (s : 
   pub grow_room : s.clock < 512
   grow_room = omega (arith, few, clock_room R s rows state T.stands y hy (cc))
 
-  label_after : (z : ℕ) → after.label z ≡ label_at m (set (set s.labels y 2) c 1) z
-  unfolding label_of
+  label_after : (z : ℕ) → after.label z ≡ label_at m (set (set s.labels y kind.Odd) c kind.Even) z
   label_after z = cc (
     mate_is,
     T.stands.label_is z,
-    label_at_set m s.labels y 2 z hy (omega (arith, few, T.sized.labels)),
-    label_at_set m (set s.labels y 2) c 1 z c_inside (simp length-set (omega (arith, few, T.sized.labels))),
+    label_at_set m s.labels y kind.Odd z hy (omega (arith, few, T.sized.labels)),
+    label_at_set m (set s.labels y kind.Odd) c kind.Even z c_inside (simp length-set (omega (arith, few, T.sized.labels))),
   )
 
   even_after : (z : ℕ) → even? (after.label z) ≡ (eqb z c || even? (state.label z))
@@ -105,14 +105,13 @@ module _ (R : List Request) (symmetric : Symmetric (adjacent R)) (r : ℕ) (s : 
     | different f ↦ elim (test z y) [ same i j ↦ cc | different i ↦ cc ]
   ]
 
-  settled_after : (z : ℕ) → T.frozen_label z ≡ settled_at m (set (set s.labels y 2) c 1) z
-  unfolding settled_of
+  settled_after : (z : ℕ) → T.frozen_label z ≡ settled_at m (set (set s.labels y kind.Odd) c kind.Even) z
   settled_after z =
       let free : (w : ℕ) → state.label w ≡ Free → T.frozen_label w ≡ Free = λ w e.
       unfrozen (adjacent R) M T.frozen_label T.frozen_base r state scanned S w (cc)
       in
-      let e₁ = settled_at_set m s.labels y 2 z hy (omega (arith, few, T.sized.labels)) in
-      let e₂ = settled_at_set m (set s.labels y 2) c 1 z c_inside (simp length-set (omega (arith, few, T.sized.labels))) in
+      let e₁ = settled_at_set m s.labels y kind.Odd z hy (omega (arith, few, T.sized.labels)) in
+      let e₂ = settled_at_set m (set s.labels y kind.Odd) c kind.Even z c_inside (simp length-set (omega (arith, few, T.sized.labels))) in
       let e₀ = T.frozen_label_is z in
       elim (test z c) [
         | same f g ↦ cc (free c free_c)
@@ -210,7 +209,7 @@ module _ (R : List Request) (symmetric : Symmetric (adjacent R)) (r : ℕ) (s : 
   }
 
 -- x is being scanned, and y comes next
-pub grow_stands : (R : List Request) (symmetric : Symmetric (adjacent R)) (r : ℕ) (s : Arrays) (rows : List (List ℕ)) (h x y : ℕ)
+pub grow_stands : (R : List Request) (symmetric : Symmetric (adjacent R)) (r : ℕ) (s : Search) (rows : List (List ℕ)) (h x y : ℕ)
     (at : ScanAt R r s rows h x y) → y < length R → at.standing.state.label y ≡ Free → eqb (entry (length R) s.mates y) y ≡ false
     → adjacent R x y ≡ true
     → ScanAt R r (grown_arrays s x y (get_or s.mates y 0)) (set rows (get_or s.mates y 0) (grown_row rows x y (get_or s.mates y 0))) h x

@@ -13,8 +13,9 @@ use Rattle.blossom.specs.Internal.State.{State, Invariant}
 use Rattle.blossom.proofs.Cycle.{cycle, cycle_symmetric}
 use Rattle.blossom.proofs.Kept.{kept_either}
 use Rattle.matching.specs.Internal.Adjacency.{adjacent}
-use Rattle.matching.specs.Internal.Arrays.{Arrays}
-use Rattle.matching.specs.Internal.Climbs.{Marks}
+use Rattle.matching.specs.declared.climbs.Marks.{Marks}
+use Rattle.matching.specs.declared.climbs.Side.TheVariants.{Neither, First, Second}
+use Rattle.matching.specs.declared.matchings.Search.{Search}
 use Rattle.matching.specs.Internal.Model.{entry}
 use Rattle.matching.specs.Internal.Rows.{mixed_entry, Unmixed}
 use Rattle.matching.specs.Internal.Steps.{joins_blossom}
@@ -32,10 +33,10 @@ neither : (a b : Bool) → (a || b) ≡ false → two a b ≡ two false false
 neither true b e = impossible e
 neither false b e = cc
 
-module _ (R : List Request) (symmetric : Symmetric (adjacent R)) (r : ℕ) (s : Arrays) (rows : List (List ℕ)) (h x y : ℕ)
+module _ (R : List Request) (symmetric : Symmetric (adjacent R)) (r : ℕ) (s : Search) (rows : List (List ℕ)) (h x y : ℕ)
     {b : ℕ} {found : Marks} (C : Closed R r s rows h x y b found)
     (joined : List ℕ)
-    (covers : (z : ℕ) → z < length R → joins_blossom s.bases s.queue s.clock found.cycle found.bases_on z ≡ true
+    (covers : (z : ℕ) → z < length R → joins_blossom s found z ≡ true
     → has joined z ≡ true) where
   abbrev state : State
   state = C.at.standing.state
@@ -55,12 +56,12 @@ module _ (R : List Request) (symmetric : Symmetric (adjacent R)) (r : ℕ) (s : 
   away : (z : ℕ) → z < length R → has joined z ≡ false → two (A z) (even? (state.label z) && A (M (state.base z))) ≡ two false false
   away z l e = neither (A z) (even? (state.label z) && A (M (state.base z)))
       (sym (joins_is R symmetric r s rows h x y C z l)
-      ∙ elim (is (joins_blossom s.bases s.queue s.clock found.cycle found.bases_on z)) [
+      ∙ elim (is (joins_blossom s found z)) [
         | yes f ↦ impossible (cc (covers z l f))
         | no f ↦ f
       ])
 
-  pub unmixed_first : (v : ℕ) → v < length R → get_or found.sides v 0 ≡ 1 → Unmixed (length R) rows s.labels s.mates joined x y v
+  pub unmixed_first : (v : ℕ) → v < length R → get_or found.sides v Neither ≡ First → Unmixed (length R) rows s.labels s.mates joined x y v
   unfolding mixed_entry
   unmixed_first v hv e z hz f =
       let o = side_one R r s rows state C.at.standing.stands I x y found.sides C.right v hv e in
@@ -72,7 +73,7 @@ module _ (R : List Request) (symmetric : Symmetric (adjacent R)) (r : ℕ) (s : 
         row_cell R r s rows state C.at.standing.stands I y z C.even hz,
       )
 
-  pub unmixed_second : (v : ℕ) → v < length R → get_or found.sides v 0 ≡ 2 → Unmixed (length R) rows s.labels s.mates joined y x v
+  pub unmixed_second : (v : ℕ) → v < length R → get_or found.sides v Neither ≡ Second → Unmixed (length R) rows s.labels s.mates joined y x v
   unfolding mixed_entry
   unmixed_second v hv e z hz f =
       let o = side_two R r s rows state C.at.standing.stands I x y found.sides C.right v hv e in

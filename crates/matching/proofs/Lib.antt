@@ -11,13 +11,13 @@ pub mod EnlargeLaws
 pub mod CycleLaws
 pub mod BlossomLaws
 pub mod KeptLaws
+pub mod MembersLaws
 pub mod BaseLaws
 pub mod ClimbLaws
 pub mod PromoteLaws
 pub mod WalkLaws
 pub mod ClosingLaws
 pub mod AttachLaws
-pub mod FirstLaws
 pub mod AroundLaws
 pub mod ScanLaws
 pub mod ExtendLaws

@@ -1,10 +1,14 @@
 -- The sizes of the sets, request by request.
-use Prim.Native.Nat.{ℕ, zero, suc, ◌+◌, ◌<◌, ◌≤◌, max}
+use Prim.Native.Nat.{ℕ, zero, suc, ◌+◌, ◌*◌, ◌^◌, ◌<◌, ◌≤◌, max}
 use mathlib.Core.Path.{◌≡◌, refl, ◌∙◌}
 use mathlib.Core.List.{List}
 use native.Mathlib.Numerals.{add-one}
 use native.Mathlib.Omega.{arith}
-use lib.ListN.{length, set}
+use lib.ListN.{length, get_or, set, take}
+use lib.Count.{ones-le}
+use Rattle.std.specs.Int.Count.{ones}
+use Rattle.std.proofs.lemmas.List.Sums.{sum_by-le}
+use Rattle.std.proofs.lemmas.List.Elements.{All-from_get_or}
 use lib.Seq.{get_or-set_same, get_or-set_other}
 use borrow.Author.Tests.{eqb-false}
 use Rattle.ring.specs.declared.requests.Request.{Request}
@@ -21,7 +25,7 @@ pub measured_start : (R : List Request) (words : ℕ) (sizes : List ℕ) → Mea
 measured_start R words sizes = record { each = λ i h. absurd (omega arith); largest_is = refl }
 
 pub measured_turn : {R : List Request} {i words : ℕ} {sizes : List ℕ} {largest : ℕ} → Measured R i words sizes largest → i < length sizes
-    → {around : List ℕ} {size : ℕ} → Neighbours R i around → size ≡ bits_set around words
+    → {around : List ℕ} {size : ℕ} → Neighbours R i around → size ≡ bits_set (take words around)
     → Measured R (i + 1) words (set sizes i size) (max largest size)
 measured_turn {i = i} {sizes = sizes} M h {around} {size} N e =
     let here = get_or-set_same sizes i size 0 h in
@@ -35,3 +39,7 @@ measured_turn {i = i} {sizes = sizes} M h {around} {size} N e =
       ];
       largest_is = rw add-one (cc (M.largest_is, largest_before sizes i size i (omega arith)));
     }
+
+-- a word has at most 64 bits
+pub bits_few : (words : List ℕ) → ((k : ℕ) → get_or words k 0 < 2 ^ 64) → bits_set words ≤ length words * 64
+bits_few words h = sum_by-le ones 64 words (All-from_get_or (λ x. ones x ≤ 64) words 0 (λ i l. ones-le 64 (get_or words i 0) (h i)))

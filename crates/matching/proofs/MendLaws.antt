@@ -1,6 +1,6 @@
 -- A row of a blossom that is made in place: the row that is written is an odd vertex's, and those that are read are even vertices'.
 use Prim.Native.Nat.{ℕ, ◌+◌, ◌<◌, ◌≤◌}
-use mathlib.Core.Path.{◌≡◌, refl, sym, ap, ◌∙◌}
+use mathlib.Core.Path.{◌≡◌, refl, ap, ◌∙◌}
 use mathlib.Core.Bool.{false, cond}
 use mathlib.Core.List.{List, []}
 use native.Mathlib.Omega.{arith}
@@ -10,33 +10,30 @@ use lib.Seq.{get_or-set_other, set-set}
 use borrow.Author.Tests.{eqb-false}
 use Rattle.ring.proofs.Cases.{same, different, test}
 use Rattle.sets.specs.Sets.{has}
+use Rattle.matching.specs.declared.labels.VertexLabel.{VertexLabel}
+use Rattle.matching.specs.declared.labels.VertexLabel.TheVariants as kind
 use Rattle.matching.specs.Internal.Rows.{cell, below_in, mixed_entry, absorbed_entry, Readable, Unmixed, AbsorbedRow}
 use Rattle.matching.specs.Internal.Search.{Square}
+use Rattle.matching.proofs.LabellingLaws.{is_even, is_odd, is_neither, label_case, even_not_odd}
 use Rattle.matching.proofs.RowLaws.{below_even, below_self, below_odd, below_none, Mended}
 use Rattle.matching.proofs.RowLaws.{mended_skip, mended_turn, row_end, square_set, changed_row}
 
 -- rows that agree at the even vertices give the same absorbed rows
-module _ (m : ℕ) (rows now : List (List ℕ)) (labels mates : List ℕ)
-    (kept : (w : ℕ) → w < 512 → get_or labels w 0 ≡ 1 → get_or now w [] ≡ get_or rows w []) where
+module _ (m : ℕ) (rows now : List (List ℕ)) (labels : List VertexLabel) (mates : List ℕ)
+    (kept : (w : ℕ) → w < 512 → get_or labels w kind.Free ≡ kind.Even → get_or now w [] ≡ get_or rows w []) where
   same_below : (x y v z : ℕ) → Readable m labels mates x y → z < m → below_in now labels mates v z ≡ below_in rows labels mates v z
-  same_below x y v z readable less = elim (test (get_or labels z 0) 1) [
-    | same even t ↦
+  same_below x y v z readable less = elim (label_case (get_or labels z kind.Free)) [
+    | is_even even ↦
         cc (below_even now labels mates v z even, below_even rows labels mates v z even, kept z (omega (arith, readable.few)) even)
-    | different d ↦ elim (test (get_or labels z 0) 2) [
-      | different e ↦
+    | is_neither d e ↦ cc (below_none now labels mates v z d e, below_none rows labels mates v z d e)
+    | is_odd odd ↦ elim (test z v) [
+      | same self u ↦ cc (below_self now labels mates v z odd self, below_self rows labels mates v z odd self)
+      | different u ↦
           cc (
-            below_none now labels mates v z (eqb-false _ _ d.left) (eqb-false _ _ e.left),
-            below_none rows labels mates v z (eqb-false _ _ d.left) (eqb-false _ _ e.left),
+            below_odd now labels mates v z odd (eqb-false _ _ u.left),
+            below_odd rows labels mates v z odd (eqb-false _ _ u.left),
+            kept (get_or mates z 0) (omega (arith, readable.few, readable.inside z less)) (readable.mate_even z less odd),
           )
-      | same odd t ↦ elim (test z v) [
-        | same self u ↦ cc (below_self now labels mates v z odd self, below_self rows labels mates v z odd self)
-        | different u ↦
-            cc (
-              below_odd now labels mates v z odd (eqb-false _ _ u.left),
-              below_odd rows labels mates v z odd (eqb-false _ _ u.left),
-              kept (get_or mates z 0) (omega (arith, readable.few, readable.inside z less)) (readable.mate_even z less odd),
-            )
-      ]
     ]
   ]
 
@@ -66,12 +63,14 @@ module _ (m : ℕ) (rows now : List (List ℕ)) (labels mates : List ℕ)
       )
 
 -- rows of which one, an odd vertex's, has been stored anew
-odd_kept : (rows now : List (List ℕ)) (labels : List ℕ) (v : ℕ) (r : List ℕ) → get_or labels v 0 ≡ 2 → now ≡ set rows v r
-    → (w : ℕ) → w < 512 → get_or labels w 0 ≡ 1 → get_or now w [] ≡ get_or rows w []
-odd_kept rows now labels v r odd stored w h even = rw stored (get_or-set_other rows v w r [] (λ e. eqb-false 1 2 refl (sym even ∙ rw e odd)))
+odd_kept : (rows now : List (List ℕ)) (labels : List VertexLabel) (v : ℕ) (r : List ℕ) → get_or labels v kind.Free ≡ kind.Odd
+    → now ≡ set rows v r
+    → (w : ℕ) → w < 512 → get_or labels w kind.Free ≡ kind.Even → get_or now w [] ≡ get_or rows w []
+odd_kept rows now labels v r odd stored w h even =
+    rw stored (get_or-set_other rows v w r [] (λ e. even_not_odd (get_or labels w kind.Free) even (rw e odd)))
 
 -- the rows as a loop mends row v, at first a copy of row q: the row is mixed of rows p and q below n
-pub record Mending (n m : ℕ) (rows now : List (List ℕ)) (labels mates joined : List ℕ) (p q v : ℕ) : Type 0 where
+pub record Mending (n m : ℕ) (rows now : List (List ℕ)) (labels : List VertexLabel) (mates joined : List ℕ) (p q v : ℕ) : Type 0 where
   pub square : Square m rows
   pub unmixed : Unmixed m rows labels mates joined p q v
   pub row : List ℕ
@@ -79,23 +78,21 @@ pub record Mending (n m : ℕ) (rows now : List (List ℕ)) (labels mates joined
   pub wide : length row ≡ 512
   pub mended : Mended (mixed_entry rows labels mates p q v) (cell rows q) row n
 
-module _ (m : ℕ) (labels mates joined : List ℕ) (p q v : ℕ) (readable : Readable m labels mates p q) (inside : v < m)
-    (odd : get_or labels v 0 ≡ 2) where
-  pub mending_start : (rows copied : List (List ℕ)) (next : ℕ) → Square m rows → Unmixed m rows labels mates joined p q v
-      → copied ≡ set rows v (get_or rows q []) → next ≤ m → ((k : ℕ) → 0 ≤ k → k < next → has joined k ≡ false)
-      → Mending next m copied copied labels mates joined p q v
-  mending_start rows copied next square unmixed copy l none =
+module _ (m : ℕ) (labels : List VertexLabel) (mates joined : List ℕ) (p q v : ℕ) (readable : Readable m labels mates p q) (inside : v < m)
+    (odd : get_or labels v kind.Free ≡ kind.Odd) where
+  pub mending_start : (rows copied : List (List ℕ)) → Square m rows → Unmixed m rows labels mates joined p q v
+      → copied ≡ set rows v (get_or rows q []) → Mending 0 m copied copied labels mates joined p q v
+  mending_start rows copied square unmixed copy =
       record {
         square = rw copy (square_set m rows v (get_or rows q []) square inside wide);
         unmixed = agree;
         row = get_or copied q [];
         stored = cc (copy, same_q, set-set rows v (get_or rows q []) (get_or rows q []));
         wide = ap length same_q ∙ wide;
-        mended = mended_skip _ _ joined m agree _ 0 next (record { done = λ k h. absurd (omega arith); rest = λ k h. refl }) (omega arith) l
-            none;
+        mended = record { done = λ k h. absurd (omega arith); rest = λ k h. refl };
       }
     where
-      kept : (w : ℕ) → w < 512 → get_or labels w 0 ≡ 1 → get_or copied w [] ≡ get_or rows w []
+      kept : (w : ℕ) → w < 512 → get_or labels w kind.Free ≡ kind.Even → get_or copied w [] ≡ get_or rows w []
       kept = odd_kept rows copied labels v (get_or rows q []) odd copy
 
       wide : length (get_or rows q []) ≡ 512
@@ -111,10 +108,21 @@ module _ (m : ℕ) (labels mates joined : List ℕ) (p q v : ℕ) (readable : Re
     pub mending_square : Square m now
     mending_square = rw H.stored (square_set m rows v H.row H.square inside H.wide)
 
-    pub mending_turn : (next value : ℕ) → n < m → value ≡ mixed_entry now labels mates p q v n → n + 1 ≤ next → next ≤ m
-        → ((k : ℕ) → n + 1 ≤ k → k < next → has joined k ≡ false)
-        → Mending next m rows (set now v (set (get_or now v []) n value)) labels mates joined p q v
-    mending_turn next value less right h l none =
+    -- vertices that do not join have their entries of row q
+    pub mending_skip : (next : ℕ) → n ≤ next → next ≤ m → ((k : ℕ) → n ≤ k → k < next → has joined k ≡ false)
+        → Mending next m rows now labels mates joined p q v
+    mending_skip next h l none = record {
+      square = H.square;
+      unmixed = H.unmixed;
+      row = H.row;
+      stored = H.stored;
+      wide = H.wide;
+      mended = mended_skip _ _ joined m H.unmixed H.row n next H.mended h l none;
+    }
+
+    pub mending_turn : (value : ℕ) → n < m → value ≡ mixed_entry now labels mates p q v n
+        → Mending (n + 1) m rows (set now v (set (get_or now v []) n value)) labels mates joined p q v
+    mending_turn value less right =
         record {
           square = H.square;
           unmixed = H.unmixed;
@@ -122,9 +130,8 @@ module _ (m : ℕ) (labels mates joined : List ℕ) (p q v : ℕ) (readable : Re
           stored = changed_row rows now v H.row (λ r. set r n value) (omega (arith, H.square.many)) H.stored;
           wide = simp length-set H.wide;
           mended =
-              mended_turn _ _ joined m H.unmixed H.row n next value H.mended (omega (arith, H.wide, readable.few))
-              (right ∙ same_mixed m rows now labels mates (odd_kept rows now labels v H.row odd H.stored) p q v n readable less) h l
-              none;
+              mended_turn _ _ H.row n value H.mended (omega (arith, H.wide, readable.few))
+              (right ∙ same_mixed m rows now labels mates (odd_kept rows now labels v H.row odd H.stored) p q v n readable less);
         }
 
     pub mending_end : (entry : List (List ℕ)) (copy row : List ℕ) → m ≤ n → rows ≡ set entry v copy

@@ -10,6 +10,8 @@ use lib.Seq.{get_or-set_same, get_or-set_other}
 use borrow.Author.Tests.{eqb-false, lt-ltb}
 use Rattle.ring.proofs.Cases.{eqb_refl, same, different, test, less, not_less, compare, impossible}
 use Rattle.blossom.specs.Internal.Labels.{free?}
+use Rattle.matching.specs.declared.labels.VertexLabel.{VertexLabel}
+use Rattle.matching.specs.declared.labels.VertexLabel.TheVariants as kind
 use Rattle.matching.specs.Internal.Model.{entry, label_of, label_at, settled_of, settled_at, among}
 
 pub entry_inside : (m : ℕ) (l : List ℕ) (z : ℕ) → z < m → entry m l z ≡ get_or l z 0
@@ -24,29 +26,29 @@ entry_set m l i v z h k = elim (test z i) [
   | different e ↦ cc (get_or-set_other l i z v 0 (eqb-false z i e.left))
 ]
 
-pub label_at_set : (m : ℕ) (l : List ℕ) (i v z : ℕ) → i < m → m ≤ length l
+pub label_at_set : (m : ℕ) (l : List VertexLabel) (i : ℕ) (v : VertexLabel) (z : ℕ) → i < m → m ≤ length l
     → label_at m (set l i v) z ≡ cond (eqb z i) (label_of v) (label_at m l z)
 unfolding label_at
 label_at_set m l i v z h k = elim (test z i) [
-  | same e f ↦ cc (lt-ltb i m h, get_or-set_same l i v 0 (omega arith))
-  | different e ↦ cc (get_or-set_other l i z v 0 (eqb-false z i e.left))
+  | same e f ↦ cc (lt-ltb i m h, get_or-set_same l i v kind.Free (omega arith))
+  | different e ↦ cc (get_or-set_other l i z v kind.Free (eqb-false z i e.left))
 ]
 
-pub settled_at_set : (m : ℕ) (l : List ℕ) (i v z : ℕ) → i < m → m ≤ length l
+pub settled_at_set : (m : ℕ) (l : List VertexLabel) (i : ℕ) (v : VertexLabel) (z : ℕ) → i < m → m ≤ length l
     → settled_at m (set l i v) z ≡ cond (eqb z i) (settled_of v) (settled_at m l z)
 unfolding settled_at
 settled_at_set m l i v z h k = elim (test z i) [
-  | same e f ↦ cc (lt-ltb i m h, get_or-set_same l i v 0 (omega arith))
-  | different e ↦ cc (get_or-set_other l i z v 0 (eqb-false z i e.left))
+  | same e f ↦ cc (lt-ltb i m h, get_or-set_same l i v kind.Free (omega arith))
+  | different e ↦ cc (get_or-set_other l i z v kind.Free (eqb-false z i e.left))
 ]
 
--- the label of a vertex by its number
-pub label_at_inside : (m : ℕ) (l : List ℕ) (z : ℕ) → z < m → label_at m l z ≡ label_of (get_or l z 0)
+-- the label of a vertex, in the array
+pub label_at_inside : (m : ℕ) (l : List VertexLabel) (z : ℕ) → z < m → label_at m l z ≡ label_of (get_or l z kind.Free)
 unfolding label_at
 label_at_inside m l z h = cc (lt-ltb z m h)
 
 -- a vertex of a tree is a request
-pub not_free_inside : (m : ℕ) (l : List ℕ) (z : ℕ) → free? (label_at m l z) ≡ false → z < m
+pub not_free_inside : (m : ℕ) (l : List VertexLabel) (z : ℕ) → free? (label_at m l z) ≡ false → z < m
 unfolding label_at
 not_free_inside m l z e = elim (compare z m) [
   | less h i ↦ h

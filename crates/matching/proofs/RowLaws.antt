@@ -3,53 +3,60 @@ use Prim.Native.Nat.{ℕ, ◌+◌, ◌<◌, ◌≤◌}
 use mathlib.Core.Path.{◌≡◌, refl, sym, ap, ◌∙◌}
 use mathlib.Core.Bool.{Bool, true, false, not, cond}
 use mathlib.Core.List.{List, []}
-use mathlib.Core.Logic.{◌⊎◌, ⊎_elim}
 use native.Mathlib.Decide.{dec_lt}
 use native.Mathlib.Omega.{arith}
 use lib.Dec.{eqb}
 use lib.ListN.{length, get_or, set, length-set}
 use lib.Seq.{get_or-set_same, get_or-set_other, set-set}
 use borrow.Author.Tests.{eq-eqb, ne_eqb, eqb-false}
-use Rattle.ring.proofs.Cases.{same, different, test}
+use Rattle.ring.proofs.Cases.{same, different, test, impossible}
 use Rattle.sets.specs.Sets.{has}
-use Rattle.blossom.specs.Internal.Labels.{Free, Frozen}
 use Rattle.blossom.specs.Internal.State.{below_test}
+use Rattle.matching.specs.declared.labels.VertexLabel.{VertexLabel}
+use Rattle.matching.specs.declared.labels.VertexLabel.TheVariants as kind
+use Rattle.matching.specs.declared.climbs.Side.{Side}
+use Rattle.matching.specs.declared.climbs.Side.TheVariants.{Neither, First, Second}
 use Rattle.matching.specs.Internal.Model.{label_of}
-use Rattle.matching.specs.Internal.Rows.{cell, below_in, mixed_entry, absorbed_entry, Readable, AbsorbedRow, AbsorbedVertex}
+use Rattle.matching.specs.Internal.Rows.{cell, below_in, mixed_entry, absorbed_entry, Readable}
 use Rattle.matching.specs.Internal.Search.{Square}
+use Rattle.matching.specs.Internal.Steps.{off_cycle}
 
 -- a vertex that is free or frozen is below none
-below_outside : (free self a b : Bool) → below_test (cond free Free Frozen) self a b ≡ false
-below_outside true self a b = refl
-below_outside false self a b = refl
+below_outside : (l : VertexLabel) (self a b : Bool) → (l ≡ kind.Even → ⊥) → (l ≡ kind.Odd → ⊥) → below_test (label_of l) self a b ≡ false
+below_outside kind.Free self a b e f = refl
+below_outside kind.Even self a b e f = absurd (e refl)
+below_outside kind.Odd self a b e f = absurd (f refl)
+below_outside kind.FrozenEven self a b e f = refl
+below_outside kind.FrozenOdd self a b e f = refl
 
 cond_same : (b : Bool) (a : ℕ) → cond b a a ≡ a
 cond_same true a = refl
 cond_same false a = refl
 
 -- `below`, by the label of z
-module _ (rows : List (List ℕ)) (labels mates : List ℕ) (v z : ℕ) where
-  pub below_even : get_or labels z 0 ≡ 1 → below_in rows labels mates v z ≡ not (eqb (cell rows z v) (get_or mates v 0))
-  unfolding below_in label_of
+module _ (rows : List (List ℕ)) (labels : List VertexLabel) (mates : List ℕ) (v z : ℕ) where
+  pub below_even : get_or labels z kind.Free ≡ kind.Even → below_in rows labels mates v z ≡ not (eqb (cell rows z v) (get_or mates v 0))
+  unfolding below_in
   below_even even = rw even
 
-  pub below_self : get_or labels z 0 ≡ 2 → z ≡ v → below_in rows labels mates v z ≡ false
-  unfolding below_in label_of
+  pub below_self : get_or labels z kind.Free ≡ kind.Odd → z ≡ v → below_in rows labels mates v z ≡ false
+  unfolding below_in
   below_self odd self = rw (odd, eq-eqb z v self)
 
-  pub below_odd : get_or labels z 0 ≡ 2 → (z ≡ v → ⊥)
+  pub below_odd : get_or labels z kind.Free ≡ kind.Odd → (z ≡ v → ⊥)
       → below_in rows labels mates v z ≡ not (eqb (cell rows (get_or mates z 0) v) (get_or mates v 0))
-  unfolding below_in label_of
+  unfolding below_in
   below_odd odd other = rw (odd, ne_eqb z v other)
 
-  pub below_none : (get_or labels z 0 ≡ 1 → ⊥) → (get_or labels z 0 ≡ 2 → ⊥) → below_in rows labels mates v z ≡ false
-  unfolding below_in label_of
-  below_none not-even not-odd = rw (ne_eqb (get_or labels z 0) 1 not-even, ne_eqb (get_or labels z 0) 2 not-odd)
-      (below_outside (eqb (get_or labels z 0) 0) (eqb z v) (eqb (cell rows z v) (get_or mates v 0))
-      (eqb (cell rows (get_or mates z 0) v) (get_or mates v 0)))
+  pub below_none : (get_or labels z kind.Free ≡ kind.Even → ⊥) → (get_or labels z kind.Free ≡ kind.Odd → ⊥)
+      → below_in rows labels mates v z ≡ false
+  unfolding below_in
+  below_none not-even not-odd =
+      below_outside (get_or labels z kind.Free) (eqb z v) (eqb (cell rows z v) (get_or mates v 0))
+      (eqb (cell rows (get_or mates z 0) v) (get_or mates v 0)) not-even not-odd
 
 -- an entry of a row that is mixed of two
-module _ (rows : List (List ℕ)) (labels mates : List ℕ) (p q v z : ℕ) where
+module _ (rows : List (List ℕ)) (labels : List VertexLabel) (mates : List ℕ) (p q v z : ℕ) where
   pub mixed_same : cell rows p z ≡ cell rows q z → cell rows q z ≡ mixed_entry rows labels mates p q v z
   unfolding mixed_entry
   mixed_same agree = rw agree (sym (cond_same (below_in rows labels mates v z) (cell rows q z)))
@@ -79,6 +86,13 @@ pub record Mended (f g : ℕ → ℕ) (r : List ℕ) (n : ℕ) : Type 0 where
   pub done : Filled f r n
   pub rest : (k : ℕ) → n ≤ k → get_or r k 0 ≡ g k
 
+-- one entry more
+pub mended_turn : (f g : ℕ → ℕ) (r : List ℕ) (n value : ℕ) → Mended f g r n → n < length r → value ≡ f n → Mended f g (set r n value) (n + 1)
+mended_turn f g r n value H room right = record {
+  done = filled_turn f r n value H.done room right;
+  rest = λ k b. get_or-set_other r n k value 0 (λ e. omega arith) ∙ H.rest k (omega arith);
+}
+
 module _ (f g : ℕ → ℕ) (set-of : List ℕ) (m : ℕ) (agree : (k : ℕ) → k < m → has set-of k ≡ false → f k ≡ g k) where
   -- the loop goes on to the next vertex of the set
   pub mended_skip : (r : List ℕ) (n next : ℕ) → Mended f g r n → n ≤ next → next ≤ m → ((k : ℕ) → n ≤ k → k < next → has set-of k ≡ false)
@@ -94,16 +108,6 @@ module _ (f g : ℕ → ℕ) (set-of : List ℕ) (m : ℕ) (agree : (k : ℕ) �
         rest = λ k b. H.rest k (omega arith);
       }
 
-  pub mended_turn : (r : List ℕ) (n next value : ℕ) → Mended f g r n → n < length r → value ≡ f n → n + 1 ≤ next → next ≤ m
-      → ((k : ℕ) → n + 1 ≤ k → k < next → has set-of k ≡ false) → Mended f g (set r n value) next
-  mended_turn r n next value H room right h l none =
-      mended_skip (set r n value) (n + 1) next
-      (record {
-        done = filled_turn f r n value H.done room right;
-        rest = λ k b. get_or-set_other r n k value 0 (λ e. omega arith) ∙ H.rest k (omega arith);
-      })
-      h l none
-
 -- an entry after a store
 pub entry_set : (r : List ℕ) (i a z : ℕ) → i < length r → get_or (set r i a) z 0 ≡ cond (eqb z i) a (get_or r z 0)
 entry_set r i a z room = elim (test z i) [
@@ -111,8 +115,17 @@ entry_set r i a z room = elim (test z i) [
   | different d ↦ rw d.left (get_or-set_other r i z a 0 (eqb-false z i d.left))
 ]
 
+-- a side or a flag after a store
+pub value_set : {A : Type 0} (l : List A) (i : ℕ) (a : A) (z : ℕ) (none : A) → i < length l
+    → get_or (set l i a) z none ≡ cond (eqb z i) a (get_or l z none)
+value_set l i a z none room = elim (test z i) [
+  | same e t ↦ rw (t, e) (get_or-set_same l i a none room)
+  | different d ↦ rw d.left (get_or-set_other l i z a none (eqb-false z i d.left))
+]
+
 -- a row that is mixed of two, with p and q paired and v exposed
-pub row_end : (m : ℕ) (rows : List (List ℕ)) (labels mates : List ℕ) (p q v : ℕ) (r : List ℕ) → p < 512 → q < 512 → v < 512 → length r ≡ 512
+pub row_end : (m : ℕ) (rows : List (List ℕ)) (labels : List VertexLabel) (mates : List ℕ) (p q v : ℕ) (r : List ℕ) → p < 512 → q < 512
+    → v < 512 → length r ≡ 512
     → Filled (mixed_entry rows labels mates p q v) r m → Filled (absorbed_entry rows labels mates p q v) (set (set (set r q p) p q) v v) m
 unfolding mixed_entry absorbed_entry
 row_end m rows labels mates p q v r lp lq lv wide filled z less =
@@ -140,43 +153,14 @@ pub changed_row : (rows now : List (List ℕ)) (v : ℕ) (r : List ℕ) (change 
     → set now v (change (get_or now v [])) ≡ set rows v (change r)
 changed_row rows now v r change room stored = rw (stored, get_or-set_same rows v r [] room) (set-set rows v r (change r))
 
--- a vertex that is on a side is odd
-pub on_side : {side label : ℕ} (n : ℕ) → eqb 0 n ≡ false → side ≡ n → (side ≡ 0) ⊎ (label ≡ 2) → label ≡ 2
-on_side n some on = ⊎_elim (λ off. absurd (eqb-false 0 n some (sym off ∙ on))) (λ odd. odd)
+-- a side off the cycle
+pub off_neither : (side : Side) → off_cycle side ≡ true → side ≡ Neither
+off_neither Neither e = refl
+off_neither First e = impossible (sym e)
+off_neither Second e = impossible (sym e)
 
--- one vertex that is on a side: its row is stored
-module _ (m : ℕ) (rows after : List (List ℕ)) (labels mates : List ℕ) (side x y v : ℕ) (square : Square m rows) (inside : v < m) where
-  module _ (p q : ℕ) (row : AbsorbedRow m rows after labels mates p q v) where
-    after_square : Square m after
-    after_square = rw row.stored (square_set m rows v row.row square inside row.wide)
-
-    after_others : (w : ℕ) → (w ≡ v → ⊥) → get_or after w [] ≡ get_or rows w []
-    after_others w h = rw row.stored (get_or-set_other rows v w row.row [] h)
-
-    after_entries : (z : ℕ) → z < m → cell after v z ≡ absorbed_entry rows labels mates p q v z
-    after_entries z less = rw (row.stored, get_or-set_same rows v row.row [] (omega (arith, square.many))) (row.entries z less)
-
-  pub vertex_first : side ≡ 1 → AbsorbedRow m rows after labels mates x y v → AbsorbedVertex m rows after labels mates side x y v
-  vertex_first first row =
-      record {
-        square = after_square x y row;
-        others = after_others x y row;
-        unmoved = λ h. absurd (eqb-false 0 1 refl (sym h ∙ first));
-        first = λ h. after_entries x y row;
-        second = λ h. absurd (eqb-false 2 1 refl (sym h ∙ first));
-      }
-
-  pub vertex_second : side ≡ 2 → AbsorbedRow m rows after labels mates y x v → AbsorbedVertex m rows after labels mates side x y v
-  vertex_second second row =
-      record {
-        square = after_square y x row;
-        others = after_others y x row;
-        unmoved = λ h. absurd (eqb-false 0 2 refl (sym h ∙ second));
-        first = λ h. absurd (eqb-false 1 2 refl (sym h ∙ second));
-        second = λ h. after_entries y x row;
-      }
-
-pub readable_turned : {m : ℕ} {labels mates : List ℕ} {x y : ℕ} → Readable m labels mates x y → Readable m labels mates y x
+pub readable_turned : {m : ℕ} {labels : List VertexLabel} {mates : List ℕ} {x y : ℕ} → Readable m labels mates x y
+    → Readable m labels mates y x
 readable_turned h =
     record {
       few = h.few;

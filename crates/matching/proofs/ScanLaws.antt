@@ -1,7 +1,7 @@
 -- The turns of a scan, and how a part of a search comes out.
 use Prim.Native.Nat.{ℕ, suc, ◌+◌, ◌-◌, ◌<◌, ◌≤◌}
 use mathlib.Core.Path.{◌≡◌, refl, sym, ap, ◌∙◌, subst}
-use mathlib.Core.Bool.{Bool, true, false, not, ◌&&◌, ◌||◌}
+use mathlib.Core.Bool.{Bool, true, false, ◌&&◌, ◌||◌}
 use mathlib.Core.List.{List}
 use native.Mathlib.Nat.{add-zero}
 use native.Mathlib.Numerals.{add-one}
@@ -11,21 +11,27 @@ use lib.ListN.{length, get_or}
 use borrow.Author.Tests.{eqb-true}
 use Rattle.ring.specs.declared.requests.Request.{Request}
 use Rattle.ring.specs.Requests.{requests_of}
-use Rattle.ring.proofs.Cases.{yes, no, is, impossible, and_true}
+use Rattle.ring.proofs.Cases.{impossible, and_true}
+use mathlib.Core.Logic.{◌⊎◌, inl, inr}
+use Rattle.sets.specs.Sets.{NoneFrom, Next}
 use Rattle.neighbours.specs.Neighbours.{Neighbours}
 use Rattle.blossom.specs.Internal.Labels.{Label, Free, Even, Odd, Frozen, even?}
 use Rattle.blossom.specs.Internal.Rows.{Symmetric}
 use Rattle.blossom.proofs.Scanning.{scan_begin, scan_end, scan_skip}
-use Rattle.matching.specs.Internal.Arrays.{Arrays}
+use Rattle.matching.specs.declared.labels.VertexLabel.{VertexLabel}
+use Rattle.matching.specs.declared.labels.VertexLabel.TheVariants as kind
+use Rattle.matching.specs.declared.matchings.Search.{Search}
 use Rattle.matching.specs.Internal.Adjacency.{adjacent}
 use Rattle.matching.specs.Internal.Model.{entry, label_of}
 use Rattle.matching.specs.Internal.Search.{Standing, SearchAt, ScanAt, SearchOutcome}
-use Rattle.matching.specs.Internal.Progress.{relevant_in, First, Reached, Stepped}
+use Rattle.matching.specs.Internal.Progress.{is_apart, apart_in, Reached, Stepped}
 use Rattle.matching.proofs.ModelLaws.{entry_inside, label_at_inside, among_at}
 use Rattle.matching.proofs.AdjacencyLaws.{adjacent_symmetric, adjacent_inside}
-use Rattle.matching.proofs.AroundLaws.{relevant, first_relevant}
+use Rattle.matching.proofs.AroundLaws.{relevant, relevant_out, relevant_not, relevant_found}
+use Rattle.matching.proofs.OutcomeLaws.{outcome_enlarged}
 use Rattle.matching.proofs.StandingLaws.{even_inside}
-use Rattle.matching.proofs.CycleLaws.{is_even_number, is_free_number, label_inside}
+use Rattle.matching.proofs.CycleLaws.{label_inside}
+use Rattle.matching.proofs.LabellingLaws.{even_only}
 
 even_label : (l : Label) → even? l ≡ true → l ≡ Even
 even_label Free e = cc
@@ -33,34 +39,41 @@ even_label Even e = refl
 even_label Odd e = cc
 even_label Frozen e = cc
 
-not_zero : (k : ℕ) → k ≡ 1 → eqb k 0 ≡ false
-not_zero k e = cc
-
 -- the tests of a scan
-relevant_neighbour : (R : List Request) (labels bases : List ℕ) (x y : ℕ) → relevant R labels bases x y ≡ true → adjacent R x y ≡ true
-unfolding relevant
-relevant_neighbour R labels bases x y e =
-    let label = get_or labels y 0 in
-    (and_true (eqb label 0 || eqb label 1 && not (eqb (get_or bases x 0) (get_or bases y 0))) (adjacent R x y) e).1
+relevant_neighbour : (R : List Request) (labels : List VertexLabel) (bases : List ℕ) (x y : ℕ) → relevant R labels bases x y ≡ true
+    → adjacent R x y ≡ true
+relevant_neighbour R labels bases x y e = (and_true (apart_in labels bases x y) (adjacent R x y) e).1
 
-relevant_small : (n : ℕ) (same adj : Bool) → ((eqb n 0 || eqb n 1 && not same) && adj) ≡ true → n < 2
-relevant_small n same adj e = elim (is (eqb n 0)) [
-  | yes f ↦ omega (arith, eqb-true n 0 f)
-  | no f ↦ elim (is (eqb n 1)) [
-    | yes g ↦ omega (arith, eqb-true n 1 g)
-    | no g ↦ impossible (cc)
-  ]
-]
+apart_label : (l : VertexLabel) (same : Bool) → is_apart l same ≡ true → (l ≡ kind.Free) ⊎ (l ≡ kind.Even)
+apart_label kind.Free same e = inl refl
+apart_label kind.Even same e = inr refl
+apart_label kind.Odd same e = impossible (sym e)
+apart_label kind.FrozenEven same e = impossible (sym e)
+apart_label kind.FrozenOdd same e = impossible (sym e)
 
-relevant_label : (R : List Request) (labels bases : List ℕ) (x y : ℕ) → relevant R labels bases x y ≡ true → get_or labels y 0 < 2
-unfolding relevant
-relevant_label R labels bases x y e = relevant_small (get_or labels y 0) (eqb (get_or bases x 0) (get_or bases y 0)) (adjacent R x y) e
+relevant_label : (R : List Request) (labels : List VertexLabel) (bases : List ℕ) (x y : ℕ) → relevant R labels bases x y ≡ true
+    → (get_or labels y kind.Free ≡ kind.Free) ⊎ (get_or labels y kind.Free ≡ kind.Even)
+unfolding apart_in
+relevant_label R labels bases x y e =
+    apart_label (get_or labels y kind.Free) (eqb (get_or bases x 0) (get_or bases y 0))
+    (and_true (apart_in labels bases x y) (adjacent R x y) e).0
 
-irrelevant_even : (same adj : Bool) → ((false || true && not same) && adj) ≡ false → adj ≡ true → same ≡ true
-irrelevant_even true adj e f = refl
-irrelevant_even false adj e f = cc
+free_irrelevant : (l : VertexLabel) (same adj : Bool) → label_of l ≡ Free → (is_apart l same && adj) ≡ false → adj ≡ false
+free_irrelevant kind.Free same adj f e = e
+free_irrelevant kind.Even same adj f e = cc
+free_irrelevant kind.Odd same adj f e = cc
+free_irrelevant kind.FrozenEven same adj f e = cc
+free_irrelevant kind.FrozenOdd same adj f e = cc
 
-module _ (R : List Request) (symmetric : Symmetric (adjacent R)) (r : ℕ) (s : Arrays) (rows : List (List ℕ)) (h : ℕ) where
+even_irrelevant : (l : VertexLabel) (same adj : Bool) → label_of l ≡ Even → (is_apart l same && adj) ≡ false → adj ≡ true → same ≡ true
+even_irrelevant kind.Free same adj f e a = cc
+even_irrelevant kind.Even true adj f e a = refl
+even_irrelevant kind.Even false adj f e a = cc
+even_irrelevant kind.Odd same adj f e a = cc
+even_irrelevant kind.FrozenEven same adj f e a = cc
+even_irrelevant kind.FrozenOdd same adj f e a = cc
+
+module _ (R : List Request) (symmetric : Symmetric (adjacent R)) (r : ℕ) (s : Search) (rows : List (List ℕ)) (h : ℕ) where
   abbrev m : ℕ
   m = length R
 
@@ -92,9 +105,9 @@ module _ (R : List Request) (symmetric : Symmetric (adjacent R)) (r : ℕ) (s : 
 
     -- nothing to do at n
     pub scan_passes : n < length R → relevant R s.labels s.bases x n ≡ false → ScanAt R r s rows h x (n + 1)
-    unfolding relevant
+    unfolding apart_in
     scan_passes l e =
-        let T = at.standing in let ex = at.scanning.partly.x_even in
+        let same = eqb (get_or s.bases x 0) (get_or s.bases n 0) in let T = at.standing in let ex = at.scanning.partly.x_even in
         let hx = even_inside R s rows T.state T.stands x ex in
         let ln = label_inside R r s rows T.state T.stands at.scanning.search.invariant n l in
         let bx = T.stands.base_is x ∙ entry_inside m s.bases x hx in
@@ -108,21 +121,11 @@ module _ (R : List Request) (symmetric : Symmetric (adjacent R)) (r : ℕ) (s : 
           scanning =
               rw add-one
               (scan_skip (adjacent R) symmetric (entry m s.mates) T.frozen_label T.frozen_base r T.state at.scanned x n
-              at.scanning (λ f. free_case (get_or s.labels n 0) (cc) e)
-              (λ f a. let g = even_case (get_or s.labels n 0) (cc) e a in cc (eqb-true (get_or s.bases x 0) (get_or s.bases n 0) g)));
+              at.scanning (λ f. free_irrelevant (get_or s.labels n kind.Free) same (adjacent R x n) (cc) e)
+              (λ f a.
+              let g = even_irrelevant (get_or s.labels n kind.Free) same (adjacent R x n) (cc) e a in
+              cc (eqb-true (get_or s.bases x 0) (get_or s.bases n 0) g)));
         }
-      where
-        free_case : (k : ℕ) → label_of k ≡ Free
-            → ((eqb k 0 || eqb k 1 && not (eqb (get_or s.bases x 0) (get_or s.bases n 0))) && adjacent R x n) ≡ false
-            → adjacent R x n ≡ false
-        free_case k f e = cc (is_free_number k f)
-
-        even_case : (k : ℕ) → label_of k ≡ Even
-            → ((eqb k 0 || eqb k 1 && not (eqb (get_or s.bases x 0) (get_or s.bases n 0))) && adjacent R x n) ≡ false
-            → adjacent R x n ≡ true → eqb (get_or s.bases x 0) (get_or s.bases n 0) ≡ true
-        even_case k f e a =
-            let o : eqb k 1 ≡ true = cc (is_even_number k) in let z : eqb k 0 ≡ false = not_zero k (eqb-true k 1 o) in
-            irrelevant_even (eqb (get_or s.bases x 0) (get_or s.bases n 0)) (adjacent R x n) (cc) a
 
     -- all vertices are looked at
     pub scan_finishes : n ≡ length R → SearchAt R r s rows (h + 1)
@@ -150,7 +153,7 @@ step_later : (n k z : ℕ) → n + 1 ≤ z → z < n + 1 + k → (n ≤ z) × (z
 step_later n k z a b = (omega arith, omega arith)
 
 -- nothing to do at the next k vertices
-pub scan_passes_to : (R : List Request) → Symmetric (adjacent R) → (r : ℕ) (s : Arrays) (rows : List (List ℕ)) (h x k n : ℕ)
+pub scan_passes_to : (R : List Request) → Symmetric (adjacent R) → (r : ℕ) (s : Search) (rows : List (List ℕ)) (h x k n : ℕ)
     → ScanAt R r s rows h x n
     → n + k ≤ length R → ((z : ℕ) → n ≤ z → z < n + k → relevant R s.labels s.bases x z ≡ false) → ScanAt R r s rows h x (n + k)
 scan_passes_to R symmetric r s rows h x Prim.Native.Nat.zero n here l e = subst (λ (w : ℕ). ScanAt R r s rows h x w) (sym (add-zero n)) here
@@ -161,94 +164,103 @@ scan_passes_to R symmetric r s rows h x (suc k) n here l e =
     subst (λ (w : ℕ). ScanAt R r s rows h x w) (moved n k)
     (scan_passes_to R symmetric r s rows h x k (n + 1) next i.1 (λ z a b. let j = step_later n k z a b in e z j.0 j.1))
 
-scan_passes_first : (R : List Request) → Symmetric (adjacent R) → (r : ℕ) (s : Arrays) (rows : List (List ℕ)) (h x n : ℕ)
-    → ScanAt R r s rows h x n
-    → (m next : ℕ) → m ≡ length R → First (relevant R s.labels s.bases x) n m next → ScanAt R r s rows h x next
-scan_passes_first R symmetric r s rows h x n here m next number F =
-    subst (λ (w : ℕ). ScanAt R r s rows h x w) (together n next F.least) (scan_passes_to R symmetric r s rows h x (next - n) n here
-    (rw (together n next F.least) (within next m (length R) F.most number))
-    (λ z a b. F.passed z a (rw (together n next F.least) at b)))
+-- or up to a later one
+scan_passes_up : (R : List Request) → Symmetric (adjacent R) → (r : ℕ) (s : Search) (rows : List (List ℕ)) (h x n next : ℕ)
+    → ScanAt R r s rows h x n → n ≤ next → next ≤ length R → ((z : ℕ) → n ≤ z → z < next → relevant R s.labels s.bases x z ≡ false)
+    → ScanAt R r s rows h x next
+scan_passes_up R symmetric r s rows h x n next here l inside none =
+    subst (λ (w : ℕ). ScanAt R r s rows h x w) (together n next l) (scan_passes_to R symmetric r s rows h x (next - n) n here
+    (rw (together n next l) inside)
+    (λ z a b. none z a (rw (together n next l) at b)))
   where
     together : (n next : ℕ) → n ≤ next → n + (next - n) ≡ next
     together n next l = omega arith
 
-    within : (next m k : ℕ) → next ≤ m → m ≡ k → next ≤ k
-    within next m k a b = omega arith
-
--- an even vertex has the label 1
-pub even_number : (R : List Request) (r : ℕ) (s : Arrays) (rows : List (List ℕ)) (T : Standing R r s rows) (x : ℕ)
-    → T.state.label x ≡ Even → get_or s.labels x 0 ≡ 1
-even_number R r s rows T x e =
+-- an even vertex has the label of one
+pub even_labelled : (R : List Request) (r : ℕ) (s : Search) (rows : List (List ℕ)) (T : Standing R r s rows) (x : ℕ)
+    → T.state.label x ≡ Even → get_or s.labels x kind.Free ≡ kind.Even
+even_labelled R r s rows T x e =
     let l = even_inside R s rows T.state T.stands x e in
-    eqb-true (get_or s.labels x 0) 1
-    (sym (is_even_number (get_or s.labels x 0)) ∙ ap even? (sym (T.stands.label_is x ∙ label_at_inside (length R) s.labels x l) ∙ e))
+    even_only (get_or s.labels x kind.Free) (ap even? (sym (T.stands.label_is x ∙ label_at_inside (length R) s.labels x l) ∙ e))
 
-scan_number : (R : List Request) (r : ℕ) (s : Arrays) (rows : List (List ℕ)) (h x n : ℕ) → ScanAt R r s rows h x n
-    → get_or s.labels x 0 ≡ 1
-scan_number R r s rows h x n here = even_number R r s rows here.standing x here.scanning.partly.x_even
+scan_labelled : (R : List Request) (r : ℕ) (s : Search) (rows : List (List ℕ)) (h x n : ℕ) → ScanAt R r s rows h x n
+    → get_or s.labels x kind.Free ≡ kind.Even
+scan_labelled R r s rows h x n here = even_labelled R r s rows here.standing x here.scanning.partly.x_even
 
--- x is being scanned, and y is the next of its neighbours that is free, or even and of another class, or m
-pub record ScannedTo (R : List Request) (r : ℕ) (s : Arrays) (rows : List (List ℕ)) (h x y m : ℕ) (around : List ℕ) : Type 0 where
-  pub at : ScanAt R r s rows h x y
-  pub number : m ≡ length R
+-- x is being scanned, its neighbours are told, and those below n have been looked at
+pub record ScannedTo (R : List Request) (r : ℕ) (s : Search) (rows : List (List ℕ)) (h x n : ℕ) (around : List ℕ) : Type 0 where
+  pub at : ScanAt R r s rows h x n
   pub neighbours : Neighbours R x around
-  pub most : y ≤ m
-  pub relevant_next : y < m → relevant R s.labels s.bases x y ≡ true
+  pub most : n ≤ length R
 
-pub scan_next : (R : List Request) → Symmetric (adjacent R)
-    → (r : ℕ) (s : Arrays) (rows : List (List ℕ)) (h x n m next : ℕ) (around : List ℕ) → ScanAt R r s rows h x n
-    → m ≡ length R → Neighbours R x around → First (relevant_in around s.labels s.bases x) n m next
-    → ScannedTo R r s rows h x next m around
-scan_next R symmetric r s rows h x n m next around here e N F =
-    let inside = even_inside R s rows here.standing.state here.standing.stands x here.scanning.partly.x_even in
-    let first = first_relevant R around s.labels s.bases x N (scan_number R r s rows h x n here) inside n m next e F in
-    record {
-      at = scan_passes_first R symmetric r s rows h x n here m next e first;
-      number = e;
-      neighbours = N;
-      most = F.most;
-      relevant_next = first.found;
+module _ (ends : List ℕ) (r : ℕ) (s : Search) (rows : List (List ℕ)) (h x n : ℕ) (around : List ℕ)
+    (S : ScannedTo (requests_of ends) r s rows h x n around) where
+  abbrev R : List Request
+  R = requests_of ends
+
+  x_inside : x < length R
+  x_inside = even_inside R s rows S.at.standing.state S.at.standing.stands x S.at.scanning.partly.x_even
+
+  passed_up : (next : ℕ) → n ≤ next → next ≤ length R → NoneFrom around n next → ScanAt R r s rows h x next
+  passed_up next l inside none =
+      scan_passes_up R (adjacent_symmetric ends) r s rows h x n next S.at l inside
+      (λ z a b. relevant_out R s.labels s.bases x z around S.neighbours (omega (arith, b, inside)) (none z a b))
+
+  -- the next one
+  module _ (m y : ℕ) (number : m ≡ length R) (next : Next around n m y) where
+    inside : y < length R
+    inside = omega (arith, number, next.most)
+
+    here : ScanAt R r s rows h x y
+    here = passed_up y next.least (omega (arith, inside)) next.passed
+
+    -- it has nothing to say
+    pub scan_over : apart_in s.labels s.bases x y ≡ false → ScannedTo R r s rows h x (y + 1) around
+    scan_over e = record {
+      at = scan_passes R (adjacent_symmetric ends) r s rows h x y here inside (relevant_not R s.labels s.bases x y e);
+      neighbours = S.neighbours;
+      most = omega (arith, inside);
     }
 
-pub scan_reached : (R : List Request) (r : ℕ) (s : Arrays) (rows : List (List ℕ)) (h x y m : ℕ) (around : List ℕ)
-    → ScannedTo R r s rows h x y m around → y < m
-    → Reached R r s rows h x y m × (get_or s.labels y 0 < 2)
-scan_reached R r s rows h x y m around S l =
-    let e = S.relevant_next l in (
-      record { at = S.at; number = S.number; inside = l; neighbour = relevant_neighbour R s.labels s.bases x y e },
-      relevant_label R s.labels s.bases x y e,
-    )
+    -- the edge to it is taken
+    module _ (e : apart_in s.labels s.bases x y ≡ true) where
+      relevant_edge : relevant R s.labels s.bases x y ≡ true
+      relevant_edge =
+          relevant_found R s.labels s.bases x y around S.neighbours (scan_labelled R r s rows h x n S.at) x_inside inside next.member e
 
-module _ (ends : List ℕ) (r : ℕ) (s : Arrays) (rows : List (List ℕ)) (h x y m : ℕ) (around : List ℕ)
-    (S : ScannedTo (requests_of ends) r s rows h x y m around) where
-  -- the edge to y is taken
-  module _ (l : y < m) (t : Arrays) (after : List (List ℕ)) (done : Bool) (stepped : Stepped s rows x y m t after done) where
-    outcome : SearchOutcome (requests_of ends) r t after done (ScanAt (requests_of ends) r t after h x (y + 1))
-    outcome = stepped ends r h (scan_reached (requests_of ends) r s rows h x y m around S l).0
+      pub scan_reached : Reached R r s rows h x y m
+          × ((get_or s.labels y kind.Free ≡ kind.Free) ⊎ (get_or s.labels y kind.Free ≡ kind.Even))
+      scan_reached = (
+        record { at = here; number = number; inside = next.most; neighbour = relevant_neighbour R s.labels s.bases x y relevant_edge },
+        relevant_label R s.labels s.bases x y relevant_edge,
+      )
 
-    pub scan_enlarges : done ≡ true → SearchOutcome (requests_of ends) r t after done (SearchAt (requests_of ends) r t after (h + 1))
-    scan_enlarges e = record { square = outcome.square; enlarged = outcome.enlarged; going = λ d. impossible (sym e ∙ d) }
+      module _ (t : Search) (after : List (List ℕ)) (done : Bool) (stepped : Stepped s rows x y m t after done) where
+        outcome : SearchOutcome R r t after done (ScanAt R r t after h x (y + 1))
+        outcome = stepped ends r h scan_reached.0
 
-    pub scan_goes_on : done ≡ false → (next : ℕ) → First (relevant_in around t.labels t.bases x) (y + 1) m next
-        → ScannedTo (requests_of ends) r t after h x next m around
-    scan_goes_on d next F =
-        scan_next (requests_of ends) (adjacent_symmetric ends) r t after h x (y + 1) m next around (outcome.going d) S.number
-        S.neighbours F
+        pub scan_enlarges : done ≡ true → SearchOutcome R r t after true (SearchAt R r t after (h + 1))
+        scan_enlarges = outcome_enlarged outcome
+
+        pub scan_goes_on : done ≡ false → ScannedTo R r t after h x (y + 1) around
+        scan_goes_on d = record { at = outcome.going d; neighbours = S.neighbours; most = omega (arith, inside) }
 
   -- there is none
-  pub scan_ends : m ≤ y → SearchOutcome (requests_of ends) r s rows false (SearchAt (requests_of ends) r s rows (h + 1))
-  scan_ends l = record {
+  pub scan_ends : (m : ℕ) → m ≡ length R → NoneFrom around n m → SearchOutcome R r s rows false (SearchAt R r s rows (h + 1))
+  scan_ends m number none = record {
     square = S.at.standing.square;
     enlarged = λ d. impossible (sym d);
-    going = λ d. scan_finishes (requests_of ends) (adjacent_symmetric ends) r s rows h x y S.at (omega (arith, S.number, S.most));
+    going = λ d.
+        let end = passed_up m (omega (arith, number, S.most)) (omega (arith, number)) none in
+        scan_finishes R (adjacent_symmetric ends) r s rows h x m end number;
   }
 
--- a queued vertex is one of the requests, and has the label 1
-module _ (R : List Request) (symmetric : Symmetric (adjacent R)) (r : ℕ) (s : Arrays) (rows : List (List ℕ)) (h : ℕ)
+-- a queued vertex is one of the requests, and has the label of an even one
+module _ (R : List Request) (symmetric : Symmetric (adjacent R)) (r : ℕ) (s : Search) (rows : List (List ℕ)) (h : ℕ)
     (S : SearchAt R r s rows h) (i : ℕ) (l : i < s.clock) where
   pub queued_inside : get_or s.queue i 0 < length R
   queued_inside =
       even_inside R s rows S.standing.state S.standing.stands (get_or s.queue i 0) (queued_even R symmetric r s rows h S i l)
 
-  pub queued_number : get_or s.labels (get_or s.queue i 0) 0 ≡ 1
-  queued_number = even_number R r s rows S.standing (get_or s.queue i 0) (queued_even R symmetric r s rows h S i l)
+  pub queued_labelled : get_or s.labels (get_or s.queue i 0) kind.Free ≡ kind.Even
+  queued_labelled = even_labelled R r s rows S.standing (get_or s.queue i 0) (queued_even R symmetric r s rows h S i l)

@@ -8,7 +8,7 @@ use native.Mathlib.Omega.{arith}
 use lib.Dec.{eqb}
 use lib.ListN.{length, get_or, set, length-set}
 use lib.Seq.{get_or-set_same, get_or-set_other}
-use borrow.Author.Tests.{eqb-true, eqb-false, ne_eqb, lt-ltb, le-ltb}
+use borrow.Author.Tests.{eqb-false, lt-ltb}
 use Rattle.ring.specs.declared.requests.Request.{Request}
 use Rattle.ring.proofs.Cases.{yes, no, is, same, different, test, less, not_less, compare, eqb_refl, impossible}
 use Rattle.ring.proofs.Counting.{bit, sum_ext, sum_zero, count_insert}
@@ -18,7 +18,10 @@ use Rattle.blossom.specs.Internal.State.{State}
 use Rattle.blossom.proofs.Start.{IsStart}
 use Rattle.blossom.proofs.Search.{between_skip, search_begin}
 use Rattle.blossom.proofs.Freeze.{frozen_labels, freezes}
-use Rattle.matching.specs.Internal.Arrays.{Arrays, arrays}
+use Rattle.matching.specs.declared.labels.VertexLabel.{VertexLabel}
+use Rattle.matching.specs.declared.labels.VertexLabel.TheVariants as kind
+use Rattle.matching.specs.declared.matchings.Search.{Search}
+use Rattle.matching.specs.Maximum.{is_frozen}
 use Rattle.matching.specs.Internal.Adjacency.{adjacent}
 use Rattle.matching.specs.Internal.Labelling.{unlabelled, frozen, Relabelled}
 use Rattle.matching.specs.Internal.Model.{entry, row_at, label_of, label_at, settled_of, settled_at, among}
@@ -28,32 +31,45 @@ use Rattle.matching.proofs.ModelLaws.{entry_inside, entry_set, label_at_set, set
 use Rattle.matching.proofs.RowLaws.{square_set}
 use Rattle.matching.proofs.GrowLaws.{row_set}
 
--- the numbers of the labels when a search begins
-begun_label : (n : ℕ) → label_of (unlabelled n) ≡ cond (not (free? (settled_of n))) Frozen Free
-unfolding label_of settled_of
-begun_label n = elim (compare n 3) [
-  | less h e ↦ cc
-  | not_less h e ↦
-      let a = ne_eqb n 0 (λ f. omega arith) in let b = ne_eqb n 1 (λ f. omega arith) in let d = ne_eqb n 2 (λ f. omega arith) in
-      elim (is (eqb n 3)) [ yes f ↦ cc | no f ↦ cc ]
-]
+-- the labels when a search begins
+begun_label : (l : VertexLabel) → label_of (unlabelled l) ≡ cond (not (free? (settled_of l))) Frozen Free
+begun_label kind.Free = refl
+begun_label kind.Even = refl
+begun_label kind.Odd = refl
+begun_label kind.FrozenEven = refl
+begun_label kind.FrozenOdd = refl
 
-pub begun_settled : (n : ℕ) → settled_of (unlabelled n) ≡ settled_of n
-unfolding settled_of
-begun_settled n = elim (compare n 3) [ less h e ↦ cc | not_less h e ↦ cc ]
+pub begun_settled : (l : VertexLabel) → settled_of (unlabelled l) ≡ settled_of l
+begun_settled kind.Free = refl
+begun_settled kind.Even = refl
+begun_settled kind.Odd = refl
+begun_settled kind.FrozenEven = refl
+begun_settled kind.FrozenOdd = refl
 
 -- and when it ends
-ended_label : (n : ℕ) → settled_of (frozen n) ≡ cond (even? (label_of n)) Even (cond (odd? (label_of n)) Odd (settled_of n))
-unfolding label_of settled_of
-ended_label n = elim (is (eqb n 1)) [
-  | yes e ↦ cc (eqb-true n 1 e)
-  | no e ↦ elim (is (eqb n 2)) [
-    | yes f ↦ cc (eqb-true n 2 f)
-    | no f ↦ elim (is (eqb n 0)) [ yes g ↦ cc | no g ↦ cc ]
-  ]
-]
+ended_label : (l : VertexLabel) → settled_of (frozen l) ≡ cond (even? (label_of l)) Even (cond (odd? (label_of l)) Odd (settled_of l))
+ended_label kind.Free = refl
+ended_label kind.Even = refl
+ended_label kind.Odd = refl
+ended_label kind.FrozenEven = refl
+ended_label kind.FrozenOdd = refl
 
-module _ (R : List Request) (s : Arrays) (r : ℕ) (S : Settled R s r) where
+-- a label that is not for good is free between searches, and one for good is not
+open_settled : (l : VertexLabel) → is_frozen l ≡ false → settled_of l ≡ Free
+open_settled kind.Free e = refl
+open_settled kind.Even e = refl
+open_settled kind.Odd e = refl
+open_settled kind.FrozenEven e = cc
+open_settled kind.FrozenOdd e = cc
+
+frozen_settled : (l : VertexLabel) → is_frozen l ≡ true → free? (settled_of l) ≡ false
+frozen_settled kind.Free e = cc
+frozen_settled kind.Even e = cc
+frozen_settled kind.Odd e = cc
+frozen_settled kind.FrozenEven e = refl
+frozen_settled kind.FrozenOdd e = refl
+
+module _ (R : List Request) (s : Search) (r : ℕ) (S : Settled R s r) where
   abbrev m : ℕ
   m = length R
 
@@ -61,8 +77,8 @@ module _ (R : List Request) (s : Arrays) (r : ℕ) (S : Settled R s r) where
   M = entry (length R) s.mates
 
   -- r is covered, or frozen: no search
-  pub settled_skip : (r < length R) → (get_or s.mates r 0 ≡ r → 3 ≤ get_or s.labels r 0) → Settled R s (r + 1)
-  unfolding settled_at settled_of
+  pub settled_skip : (r < length R) → (get_or s.mates r 0 ≡ r → is_frozen (get_or s.labels r kind.Free) ≡ true) → Settled R s (r + 1)
+  unfolding settled_at
   settled_skip l f = record {
     sized = S.sized;
     label = S.label;
@@ -70,17 +86,14 @@ module _ (R : List Request) (s : Arrays) (r : ℕ) (S : Settled R s r) where
     label_is = S.label_is;
     base_is = S.base_is;
     between = rw add-one (between_skip (adjacent R) M S.label S.base r S.between (λ e.
-        let n = f (sym (entry_inside m s.mates r l) ∙ e) in
-        elim (is (eqb (get_or s.labels r 0) 3)) [
-          | yes g ↦ cc (S.label_is r, lt-ltb r m l, le-ltb (get_or s.labels r 0) 3 n)
-          | no g ↦ cc (S.label_is r, lt-ltb r m l, le-ltb (get_or s.labels r 0) 3 n)
-        ]));
+        let n = frozen_settled (get_or s.labels r kind.Free) (f (sym (entry_inside m s.mates r l) ∙ e)) in
+        cc (S.label_is r, lt-ltb r m l)));
   }
 
   module _ (rows : List (List ℕ)) (Q : Square (length R) rows) (l : r < length R) (er : get_or s.mates r 0 ≡ r)
-      (lr : get_or s.labels r 0 < 3)
-      (labels : List ℕ) (L : Relabelled (length R) s.labels labels unlabelled) where
-    abbrev t : Arrays
+      (lr : is_frozen (get_or s.labels r kind.Free) ≡ false)
+      (labels : List VertexLabel) (L : Relabelled (length R) s.labels labels unlabelled) where
+    abbrev t : Search
     t = begun_arrays s r labels
 
     abbrev rows' : List (List ℕ)
@@ -91,7 +104,7 @@ module _ (R : List Request) (s : Arrays) (r : ℕ) (S : Settled R s r) where
 
     abbrev state : State
     state = record {
-      label = label_at (length R) (set labels r 1);
+      label = label_at (length R) (set labels r kind.Even);
       base = entry (length R) (set s.bases r r);
       parent = entry (length R) s.parents;
       order = λ z. 0;
@@ -100,26 +113,25 @@ module _ (R : List Request) (s : Arrays) (r : ℕ) (S : Settled R s r) where
     }
 
     root_free : S.label r ≡ Free
-    unfolding settled_at settled_of
-    root_free = cc (S.label_is r, lt-ltb r m l, lt-ltb (get_or s.labels r 0) 3 lr)
+    unfolding settled_at
+    root_free = cc (S.label_is r, lt-ltb r m l, open_settled (get_or s.labels r kind.Free) lr)
 
     label_start : (z : ℕ) → label_at m labels z ≡ cond (not (free? (S.label z))) Frozen Free
     unfolding label_at settled_at
     label_start z = elim (compare z m) [
-      | less h e ↦ cc (S.label_is z, L.at z h, begun_label (get_or s.labels z 0))
+      | less h e ↦ cc (S.label_is z, L.at z h, begun_label (get_or s.labels z kind.Free))
       | not_less h e ↦ cc (S.label_is z)
     ]
 
     settled_start : (z : ℕ) → settled_at m labels z ≡ S.label z
     unfolding settled_at
     settled_start z = elim (compare z m) [
-      | less h e ↦ cc (S.label_is z, L.at z h, begun_settled (get_or s.labels z 0))
+      | less h e ↦ cc (S.label_is z, L.at z h, begun_settled (get_or s.labels z kind.Free))
       | not_less h e ↦ cc (S.label_is z)
     ]
 
     start_labels : (z : ℕ) → state.label z ≡ cond (eqb z r) Even (cond (not (free? (S.label z))) Frozen Free)
-    unfolding label_of
-    start_labels z = cc (label_at_set m labels r 1 z l labels_size, label_start z)
+    start_labels z = cc (label_at_set m labels r kind.Even z l labels_size, label_start z)
 
     start_even : (z : ℕ) → even? (state.label z) ≡ (eqb z r || false)
     start_even z = let e = start_labels z in elim (is (eqb z r)) [
@@ -136,13 +148,12 @@ module _ (R : List Request) (s : Arrays) (r : ℕ) (S : Settled R s r) where
     }
 
     pub search_begins : SearchAt R r (begun_arrays s r labels) (set rows r s.mates) 0
-    unfolding settled_of
     search_begins = record {
       standing = record {
         sized = record {
           few = S.sized.few;
           mates = S.sized.mates;
-          labels = length-set labels r 1 ∙ (L.same_length ∙ S.sized.labels);
+          labels = length-set labels r kind.Even ∙ (L.same_length ∙ S.sized.labels);
           bases = length-set s.bases r r ∙ S.sized.bases;
           parents = S.sized.parents;
           queue = length-set s.queue 0 r ∙ S.sized.queue;
@@ -157,7 +168,7 @@ module _ (R : List Request) (s : Arrays) (r : ℕ) (S : Settled R s r) where
         square = square_set m rows r s.mates Q l S.sized.mates;
         frozen_label = S.label;
         frozen_base = S.base;
-        frozen_label_is = λ z. let e = settled_at_set m labels r 1 z l labels_size in elim (test z r) [
+        frozen_label_is = λ z. let e = settled_at_set m labels r kind.Even z l labels_size in elim (test z r) [
           | same f g ↦ cc (root_free)
           | different f ↦ cc (settled_start z)
         ];
@@ -189,18 +200,16 @@ module _ (R : List Request) (s : Arrays) (r : ℕ) (S : Settled R s r) where
           ]);
     }
 
-pub search_begun : {R : List Request} {s : Arrays} {r m : ℕ} {rows after : List (List ℕ)} {labels bases queue : List ℕ} → Settled R s r
-    → Square m rows
-    → m ≡ length R → r < m → get_or s.mates r 0 ≡ r → get_or s.labels r 0 < 3
-    → Begun m r s.mates s.labels s.bases s.queue rows labels bases queue after
-    → SearchAt R r (arrays s.mates labels bases s.parents queue 1) after 0
+pub search_begun : {R : List Request} {s t : Search} {r m : ℕ} {rows after : List (List ℕ)} → Settled R s r → Square m rows → m ≡ length R
+    → r < m → get_or s.mates r 0 ≡ r → is_frozen (get_or s.labels r kind.Free) ≡ false → Begun m r s rows t after
+    → SearchAt R r t after 0
 search_begun S Q number l exposed free B =
-    rw (B.row, B.label, B.base, B.queued)
+    rw (B.row, B.arrays)
     (search_begins _ _ _ S _ (rw number at Q) (rw number at l) exposed free B.free (rw number at B.unlabelling))
 
-module _ (R : List Request) (symmetric : Symmetric (adjacent R)) (r : ℕ) (s : Arrays) (rows : List (List ℕ)) (h : ℕ)
+module _ (R : List Request) (symmetric : Symmetric (adjacent R)) (r : ℕ) (s : Search) (rows : List (List ℕ)) (h : ℕ)
     (at : SearchAt R r s rows h)
-    (over : s.clock ≤ h) (labels : List ℕ) (L : Relabelled (length R) s.labels labels frozen) where
+    (over : s.clock ≤ h) (labels : List VertexLabel) (L : Relabelled (length R) s.labels labels frozen) where
   abbrev T : Standing R r s rows
   T = at.standing
 
@@ -210,9 +219,9 @@ module _ (R : List Request) (symmetric : Symmetric (adjacent R)) (r : ℕ) (s : 
       at.scanned_is x ∙ (ap (λ (k : ℕ). among s.queue k x) n ∙ (sym (T.stands.queued x) ∙ ap even? e))
 
   label_end : (z : ℕ) → frozen_labels T.state T.frozen_label z ≡ settled_at (length R) labels z
-  unfolding settled_at label_at settled_of
+  unfolding settled_at label_at
   label_end z = elim (compare z (length R)) [
-    | less l e ↦ cc (T.stands.label_is z, T.frozen_label_is z, L.at z l, ended_label (get_or s.labels z 0))
+    | less l e ↦ cc (T.stands.label_is z, T.frozen_label_is z, L.at z l, ended_label (get_or s.labels z kind.Free))
     | not_less l e ↦ cc (T.stands.label_is z, T.frozen_label_is z)
   ]
 
@@ -237,11 +246,16 @@ module _ (R : List Request) (symmetric : Symmetric (adjacent R)) (r : ℕ) (s : 
         at.scanned at.searching all_scanned);
   }
 
+-- with other labels, parents and queue
+abbrev pub with_rest : Search → List VertexLabel → List ℕ → List ℕ → ℕ → Search
+with_rest s labels parents queue clock =
+    record { mates = s.mates; labels = labels; bases = s.bases; parents = parents; queue = queue; clock = clock }
+
 -- between searches the parents and the queue say nothing, and of the labels only those of frozen vertices do
-pub settled_alike : (R : List Request) (s : Arrays) (labels parents queue : List ℕ) (clock n : ℕ) → length labels ≡ 512
+pub settled_alike : (R : List Request) (s : Search) (labels : List VertexLabel) (parents queue : List ℕ) (clock n : ℕ) → length labels ≡ 512
     → length parents ≡ 512 → length queue ≡ 512
     → ((z : ℕ) → settled_at (length R) s.labels z ≡ settled_at (length R) labels z) → Settled R s n
-    → Settled R (arrays s.mates labels s.bases parents queue clock) n
+    → Settled R (with_rest s labels parents queue clock) n
 settled_alike R s labels parents queue clock n l p q alike S = record {
   sized = record {
     few = S.sized.few;
@@ -259,7 +273,7 @@ settled_alike R s labels parents queue clock n l p q alike S = record {
   between = S.between;
 }
 
-pub rested : (R : List Request) (s : Arrays) (parents queue : List ℕ) (clock n : ℕ) → length parents ≡ 512 → length queue ≡ 512
+pub rested : (R : List Request) (s : Search) (parents queue : List ℕ) (clock n : ℕ) → length parents ≡ 512 → length queue ≡ 512
     → Settled R s n
-    → Settled R (arrays s.mates s.labels s.bases parents queue clock) n
+    → Settled R (with_rest s s.labels parents queue clock) n
 rested R s parents queue clock n p q S = settled_alike R s s.labels parents queue clock n S.sized.labels p q (λ z. refl) S

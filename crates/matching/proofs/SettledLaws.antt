@@ -1,6 +1,6 @@
 -- From a settled matching to the promise of `maximum`.
 use Prim.Native.Nat.{ℕ}
-use mathlib.Core.Path.{◌≡◌, sym, ◌∙◌}
+use mathlib.Core.Path.{◌≡◌, sym}
 use mathlib.Core.List.{List}
 use native.Mathlib.Omega.{arith}
 use lib.ListN.{length}
@@ -8,7 +8,7 @@ use Rattle.ring.specs.Requests.{requests_of}
 use Rattle.ring.specs.Matchings.{IsMaximum}
 use Rattle.matching.specs.declared.matchings.Matching.{Matching}
 use Rattle.matching.specs.Maximum.{pairs_of, MaximumMatching}
-use Rattle.matching.specs.Internal.Arrays.{Arrays}
+use Rattle.matching.specs.declared.matchings.Search.{Search}
 use Rattle.matching.specs.Internal.Model.{entry}
 use Rattle.matching.specs.Internal.Progress.{Ready}
 use Rattle.matching.specs.Internal.Search.{Settled}
@@ -18,7 +18,7 @@ use Rattle.matching.proofs.ModelLaws.{entry_inside}
 use Rattle.matching.proofs.PairLaws.{maximum_pairs}
 
 -- once every exposed request is frozen, the pairs are a maximum matching
-settled_maximum : (ends : List ℕ) (s : Arrays) → Settled (requests_of ends) s (length (requests_of ends))
+settled_maximum : (ends : List ℕ) (s : Search) → Settled (requests_of ends) s (length (requests_of ends))
     → IsMaximum (requests_of ends) (pairs_of (length (requests_of ends)) s.mates)
 settled_maximum ends s S =
     let R = requests_of ends in
@@ -28,14 +28,13 @@ settled_maximum ends s S =
     (λ z h. rw (S.base_is z, entry_inside m s.bases z h) (S.sized.bases_inside z h))
 
 -- and so they are once no search is due
-pub maximum_reached : (ends : List ℕ) (sets : List (List ℕ)) (s : Matching) (m : ℕ) → m ≡ length (requests_of ends)
-    → Ready (requests_of ends) sets s m → s.root ≡ m
+pub maximum_reached : (ends : List ℕ) (s : Matching) → Ready (requests_of ends) s → s.root ≡ length (requests_of ends)
     → MaximumMatching (requests_of ends) s
-maximum_reached ends sets s m number ready over =
-    let S = rw (over ∙ number) at ready.rooted.due.settled in
+maximum_reached ends s ready over =
+    let S = rw over at ready.rooted.due.settled in
     record {
       maximum = settled_maximum ends _ S;
-      size = rw number at ready.counted;
-      searched = over ∙ number;
+      size = ready.counted;
+      searched = over;
       certified = settled_certified (requests_of ends) s S;
     }

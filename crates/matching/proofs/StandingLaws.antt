@@ -12,7 +12,9 @@ use Rattle.blossom.specs.Internal.Labels.{Label, Free, Even, Odd, even?, frozen?
 use Rattle.blossom.specs.Internal.State.{State}
 use Rattle.blossom.specs.Internal.Searches.{Searching}
 use Rattle.blossom.proofs.LabelLaws.{is_free, is_even, is_odd, is_frozen, label_case}
-use Rattle.matching.specs.Internal.Arrays.{Arrays}
+use Rattle.matching.specs.declared.labels.VertexLabel.{VertexLabel}
+use Rattle.matching.specs.declared.labels.VertexLabel.TheVariants as kind
+use Rattle.matching.specs.declared.matchings.Search.{Search}
 use Rattle.matching.specs.Internal.Model.{entry, label_of}
 use Rattle.matching.specs.Internal.Search.{Stands, Standing}
 use Rattle.matching.proofs.AdjacencyLaws.{mates_inside}
@@ -27,21 +29,21 @@ unfolding entry
 entry_outside m l z e = cc
 
 -- a mate is a request
-pub mate_inside : (R : List Request) (r : ℕ) (s : Arrays) (rows : List (List ℕ)) → Standing R r s rows
+pub mate_inside : (R : List Request) (r : ℕ) (s : Search) (rows : List (List ℕ)) → Standing R r s rows
     → (z : ℕ) → z < length R → get_or s.mates z 0 < length R
 mate_inside R r s rows T z h =
     rw (entry_inside (length R) s.mates z h) at (mates_inside R (entry (length R) s.mates) T.between.mates z h)
 
-module _ (R : List Request) (s : Arrays) (rows : List (List ℕ)) (state : State) (S : Stands R s rows state) where
+module _ (R : List Request) (s : Search) (rows : List (List ℕ)) (state : State) (S : Stands R s rows state) where
   pub even_inside : (z : ℕ) → state.label z ≡ Even → z < length R
   even_inside z e = not_free_inside (length R) s.labels z (cc (S.label_is z))
 
   pub odd_inside : (z : ℕ) → state.label z ≡ Odd → z < length R
   odd_inside z e = not_free_inside (length R) s.labels z (cc (S.label_is z))
 
-  -- the label of a vertex below m, by its number
-  pub label_number : (z n : ℕ) → z < length R → get_or s.labels z 0 ≡ n → state.label z ≡ label_of n
-  label_number z n h e = cc (S.label_is z, label_at_inside (length R) s.labels z h)
+  -- the label of a vertex below m, as the array has it
+  pub label_told : (z : ℕ) (n : VertexLabel) → z < length R → get_or s.labels z kind.Free ≡ n → state.label z ≡ label_of n
+  label_told z n h e = cc (S.label_is z, label_at_inside (length R) s.labels z h)
 
   -- there is room in the queue as long as a vertex is not even
   pub clock_room : (z : ℕ) → z < length R → even? (state.label z) ≡ false → s.clock < length R

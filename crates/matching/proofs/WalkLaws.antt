@@ -14,16 +14,19 @@ use Rattle.blossom.specs.Internal.Rows.{Symmetric}
 use Rattle.blossom.specs.Internal.State.{State, below, Invariant}
 use Rattle.blossom.proofs.Cycle.{cycle, Walk, walk_less}
 use Rattle.blossom.proofs.Climbing.{Climbing, sided, climb_begin, climb_odd, climb_next, climb_marks, climb_ends, climb_walk}
-use Rattle.matching.specs.Internal.Arrays.{Arrays}
+use Rattle.matching.specs.declared.climbs.Marks.{Marks}
+use Rattle.matching.specs.declared.climbs.Side.{Side}
+use Rattle.matching.specs.declared.climbs.Side.TheVariants.{Neither}
+use Rattle.matching.specs.declared.matchings.Search.{Search}
 use Rattle.matching.specs.Internal.Adjacency.{adjacent}
-use Rattle.matching.specs.Internal.Climbs.{base_above, base_after, visited, passed, goes_on, went, Marks, Climbable, Climbed}
+use Rattle.matching.specs.Internal.Climbs.{base_above, base_after, visited, passed, goes_on, went, Climbable, Climbed}
 use Rattle.matching.specs.Internal.Model.{entry}
 use Rattle.matching.specs.Internal.Search.{Standing, ScanAt}
 use Rattle.matching.proofs.ModelLaws.{entry_inside}
 use Rattle.matching.proofs.StandingLaws.{even_inside, mate_inside, clock_most}
 use Rattle.matching.proofs.CycleLaws.{row_below}
 
-pub scan_inside : (R : List Request) → Symmetric (adjacent R) → (r : ℕ) (s : Arrays) (rows : List (List ℕ)) (h x y : ℕ)
+pub scan_inside : (R : List Request) → Symmetric (adjacent R) → (r : ℕ) (s : Search) (rows : List (List ℕ)) (h x y : ℕ)
     → ScanAt R r s rows h x y → x < length R
 scan_inside R symmetric r s rows h x y at =
     even_inside R s rows at.standing.state at.standing.stands x at.scanning.partly.x_even
@@ -39,7 +42,7 @@ either false true e = refl
 either false false e = cc
 
 -- the walk up from x against y
-module _ (R : List Request) (symmetric : Symmetric (adjacent R)) (r : ℕ) (s : Arrays) (rows : List (List ℕ)) (T : Standing R r s rows)
+module _ (R : List Request) (symmetric : Symmetric (adjacent R)) (r : ℕ) (s : Search) (rows : List (List ℕ)) (T : Standing R r s rows)
     (I : Invariant (adjacent R) (entry (length R) s.mates) r T.state) (x y : ℕ)
     (ex : T.state.label x ≡ Even) (ey : T.state.label y ≡ Even) where
   abbrev m : ℕ
@@ -61,11 +64,11 @@ module _ (R : List Request) (symmetric : Symmetric (adjacent R)) (r : ℕ) (s : 
     mate_in : get_or s.mates b 0 < m
     mate_in = mate_inside R r s rows T b inside
 
-    goes_on_lem : goes_on rows s.mates y b ≡ (not (eqb (M b) b) && not (below M state (M b) y))
+    goes_on_lem : goes_on rows s y b ≡ (not (eqb (M b) b) && not (below M state (M b) y))
     unfolding goes_on
     goes_on_lem = cc (mate_is, row_below R r s rows state T.stands I y (get_or s.mates b 0) ey mate_in)
 
-    module _ (on : goes_on rows s.mates y b ≡ true) where
+    module _ (on : goes_on rows s y b ≡ true) where
       free : two (eqb (M b) b) (below M state (M b) y) ≡ two false false
       free = neither (eqb (M b) b) (below M state (M b) y) (sym goes_on_lem ∙ on)
 
@@ -80,24 +83,24 @@ module _ (R : List Request) (symmetric : Symmetric (adjacent R)) (r : ℕ) (s : 
       parent_in : get_or s.parents (get_or s.mates b 0) 0 < m
       parent_in = rw parent_is at (even_inside R s rows state T.stands (state.parent (M b)) (I.parent_even (M b) mate_odd))
 
-      next_is : state.base (state.parent (M b)) ≡ base_above s.mates s.bases s.parents b
+      next_is : state.base (state.parent (M b)) ≡ base_above s b
       next_is = T.stands.base_is (state.parent (M b)) ∙ (ap (entry m s.bases) parent_is
           ∙ entry_inside m s.bases (get_or s.parents (get_or s.mates b 0) 0) parent_in)
 
-      next : Climbing M state x y (λ t. eqb t (get_or s.mates b 0) || marked t) (base_above s.mates s.bases s.parents b)
+      next : Climbing M state x y (λ t. eqb t (get_or s.mates b 0) || marked t) (base_above s b)
       next = rw (sym next_is, sym mate_is) (climb_next (adjacent R) symmetric M r state I x y ex ey marked b C (cc free) (cc free))
 
-      next_less : state.order (base_above s.mates s.bases s.parents b) < state.order b
+      next_less : state.order (base_above s b) < state.order b
       next_less = rw next_is at (walk_less (adjacent R) symmetric M r state I b mate_odd)
 
   abbrev base : ℕ → ℕ
-  base n = base_after s.mates s.bases s.parents x n
+  base n = base_after s x n
 
   abbrev marks : ℕ → ℕ → Bool
-  marks n v = passed s.mates s.bases s.parents x n v
+  marks n v = passed s x n v
 
   abbrev going : ℕ → Bool
-  going n = went rows s.mates s.bases s.parents x y n
+  going n = went rows s x y n
 
   -- after n steps; the order falls
   record Arrived (n : ℕ) : Type 0 where
@@ -111,7 +114,7 @@ module _ (R : List Request) (symmetric : Symmetric (adjacent R)) (r : ℕ) (s : 
       let o : state.order (state.base x) + 0 < s.clock = omega (arith, I.order_base x ex, I.order_clock x ex, T.stands.clock_is) in
       record { climbing = rw e at (climb_begin (adjacent R) symmetric M r state I x y ex ey); early = rw e at o }
   arrived (suc n) w =
-      let p = and_true (going n) (goes_on rows s.mates y (base n)) w in
+      let p = and_true (going n) (goes_on rows s y (base n)) w in
       let A = arrived n p.0 in
       record {
         climbing = next (λ v. marks n v) (base n) A.climbing p.1;
@@ -121,23 +124,23 @@ module _ (R : List Request) (symmetric : Symmetric (adjacent R)) (r : ℕ) (s : 
   climbing_at : (n b : ℕ) → b ≡ base n → Arrived n → Climbing M state x y (λ v. marks n v) b
   climbing_at n b e A = rw e A.climbing
 
-  pub climbable : Climbable rows s.mates s.bases s.parents x y
+  pub climbable : Climbable rows s x y
   climbable = let few = T.sized.few in record {
     from = omega (arith, even_inside R s rows state T.stands x ex);
     against = omega (arith, T.square.many, even_inside R s rows state T.stands y ey);
     base_inside = λ n w. omega (arith, inside (λ v. marks n v) (base n) (arrived n w).climbing);
     mate_inside = λ n w. omega (arith, mate_in (λ v. marks n v) (base n) (arrived n w).climbing);
     parent_inside = λ n w.
-        let p = and_true (going n) (goes_on rows s.mates y (base n)) w in
+        let p = and_true (going n) (goes_on rows s y (base n)) w in
         omega (arith, parent_in (λ v. marks n v) (base n) (arrived n p.0).climbing p.1);
     short = λ n w. omega (arith, (arrived n w).early, clock_most R s rows state T.stands);
   }
 
   -- the bases that the walk visits are the mates of the vertices that it passes
-  visited_is : (n : ℕ) → going n ≡ true → (c : ℕ) → c < m → visited s.mates s.bases s.parents x n c ≡ marks n (get_or s.mates c 0)
+  visited_is : (n : ℕ) → going n ≡ true → (c : ℕ) → c < m → visited s x n c ≡ marks n (get_or s.mates c 0)
   visited_is zero w c l = refl
   visited_is (suc n) w c l =
-      let p = and_true (going n) (goes_on rows s.mates y (base n)) w in
+      let p = and_true (going n) (goes_on rows s y (base n)) w in
       let k = mate_is (λ v. marks n v) (base n) (arrived n p.0).climbing in
       let h = visited_is n p.0 c l in
       let e = entry_inside m s.mates c l in
@@ -147,7 +150,7 @@ module _ (R : List Request) (symmetric : Symmetric (adjacent R)) (r : ℕ) (s : 
       ]
 
   -- its end
-  module _ (number b : ℕ) (before after : Marks) (E : Climbed rows s.mates s.bases s.parents x y number b before after) where
+  module _ (number : Side) (b : ℕ) (before after : Marks) (E : Climbed rows s x y number b before after) where
     abbrev n : ℕ
     n = E.steps
 
@@ -169,12 +172,12 @@ module _ (R : List Request) (symmetric : Symmetric (adjacent R)) (r : ℕ) (s : 
     marks_are : (v : ℕ) → marks n v ≡ sided M state x y v
     marks_are v = climb_marks (adjacent R) symmetric M r state I x y ex ey (λ w. marks n w) b climbing end v
 
-    pub marked_is : (v : ℕ) → get_or after.sides v 0 ≡ cond (sided M state x y v) number (get_or before.sides v 0)
+    pub marked_is : (v : ℕ) → get_or after.sides v Neither ≡ cond (sided M state x y v) number (get_or before.sides v Neither)
     marked_is v = cc (E.marked.side_is v, marks_are v)
 
     pub added_is : (v : ℕ) → has after.cycle v ≡ (sided M state x y v || has before.cycle v)
     added_is v = cc (E.marked.member v, marks_are v)
 
     pub on_is : (c : ℕ) → c < m
-        → get_or after.bases_on c 0 ≡ cond (sided M state x y (get_or s.mates c 0)) 1 (get_or before.bases_on c 0)
+        → get_or after.on c false ≡ (sided M state x y (get_or s.mates c 0) || get_or before.on c false)
     on_is c l = cc (E.marked.on_is c, visited_is n E.marked.went_on c l, marks_are (get_or s.mates c 0))

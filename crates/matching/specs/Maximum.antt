@@ -4,6 +4,8 @@ use Rattle.ring.specs.declared.requests.Request.{Request}
 use Rattle.ring.specs.Requests.{request}
 use Rattle.ring.specs.Chords.{compatible}
 use Rattle.ring.specs.Matchings.{Pair, IsMaximum}
+use Rattle.matching.specs.declared.labels.VertexLabel.{VertexLabel}
+use Rattle.matching.specs.declared.labels.VertexLabel.TheVariants as kind
 use Rattle.matching.specs.declared.matchings.Matching.{Matching}
 
 -- the pair of a request and its mate, where the request is the lower-numbered one
@@ -25,24 +27,32 @@ abbrev pub mate : Matching → ℕ → ℕ
 mate s x = get_or s.mates x 0
 
 -- its label
-abbrev pub label : Matching → ℕ → ℕ
-label s x = get_or s.labels x 0
+abbrev pub label : Matching → ℕ → VertexLabel
+label s x = get_or s.labels x kind.Free
 
 -- its base
 abbrev pub base : Matching → ℕ → ℕ
 base s x = get_or s.bases x 0
 
+-- a label for good: a search that ended without enlarging the matching gave it
+abbrev pub is_frozen : VertexLabel → Bool
+is_frozen kind.Free = false
+is_frozen kind.Even = false
+is_frozen kind.Odd = false
+is_frozen kind.FrozenEven = true
+is_frozen kind.FrozenOdd = true
+
 -- free: no search that ended without enlarging the matching has reached the request
 abbrev pub IsFree : Matching → ℕ → Type 0
-IsFree s x = label s x < 3
+IsFree s x = is_frozen (label s x) ≡ false
 
 -- even: such a search has reached it in an even number of steps
 abbrev pub IsEven : Matching → ℕ → Type 0
-IsEven s x = label s x ≡ 3
+IsEven s x = label s x ≡ kind.FrozenEven
 
 -- odd: in an odd number of steps alone
 abbrev pub IsOdd : Matching → ℕ → Type 0
-IsOdd s x = 3 < label s x
+IsOdd s x = label s x ≡ kind.FrozenOdd
 
 -- What labels and bases say: why no matching is larger. The even requests with one base, which is one of them and its own base, are a
 -- class: they are matched to each other but for the base, so they are odd in number. No even request is compatible with a free one, or with

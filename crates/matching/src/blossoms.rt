@@ -1,109 +1,91 @@
 // A blossom: the new bases, and the vertices that become even.
-ghost use Rattle.std.specs.Prelude.{◌≡◌, true, false, ◌&&◌, ℕ, ◌+◌, ◌<◌, ◌≤◌, eqb, length, get_or};
+ghost use Rattle.std.specs.Prelude.{◌≡◌, false, not, ◌&&◌, ℕ, ◌+◌, ◌<◌, ◌≤◌, eqb, get_or};
 ghost use Rattle.ring.proofs.Counting.{count};
 ghost use Rattle.sets.specs.Sets.{has};
+ghost use Rattle.matching.specs.declared.climbs.Side.TheVariants.{Neither};
 ghost use Rattle.matching.specs.Internal.Model.{among};
-ghost use Rattle.matching.specs.Internal.Steps.{base_on, on_cycle, joins_blossom, new_base, Promoted};
-ghost use Rattle.matching.specs.Internal.Bases.{has_below, Rebased, Rebasable};
+ghost use Rattle.matching.specs.Internal.Steps.{base_on, off_cycle, on_cycle, with_bases, with_queue, Promoted};
+ghost use Rattle.matching.specs.Internal.Bases.{has_below, Rebased, Rebasable, BlossomBased};
 
-use ring::numbers::wide;
+use super::climbs::{Marks, Side};
+use super::labels::VertexLabel;
+use super::matchings::Search;
+use sets::{add, members};
 
-// The vertex z gets the base b and is put into the set of those that joined, if its base is on.
-fn rebase_vertex(bases: &mut [u16; 512], on: &[u8; 512], joined: &mut [u64; 8], b: usize, z: usize)
-    requires { (z < 512) × (b < 512) × (length bases.old ≡ 512) × (length joined.old ≡ 8) × (get_or bases.old z 0 < 512) }
-    ensures { Rebased b (λ y. eqb y z && base_on bases.old on.now z) bases.old joined.old
-        bases.new joined.new }
+// Whether a vertex with this side is on the cycle.
+fn is_on(side: Side) -> bool
+    ensures { result ≡ not (off_cycle side) }
 {
-    let c = wide(bases[z]);
-    if on[c] != 0 {
-        bases[z] = b as u16;
-        sets::add(joined, z);
+    match side {
+        Side::Neither => false,
+        Side::First | Side::Second => true,
     }
 }
 
-// The queued vertices whose base is on get the base b.
-fn rebase_queued(
-    bases: &mut [u16; 512],
-    queue: &[u16; 512],
-    on: &[u8; 512],
-    joined: &mut [u64; 8],
-    clock: usize,
-    b: usize,
-    m: usize,
-)
-    requires { (m ≤ 512) × (b < m) × (clock ≤ 512) × (length bases.old ≡ 512) × (length joined.old ≡ 8)
-        × ((z : ℕ) → z < m → get_or bases.old z 0 < m) × ((i : ℕ) → i < clock → get_or queue.now i 0 < m) }
-    ensures { Rebased b (λ z. among queue.now clock z && base_on bases.old on.now z)
-        bases.old joined.old bases.new joined.new }
-{
-    let mut i = 0;
-    while i < clock {
-        let z = wide(queue[i]);
-        rebase_vertex(bases, on, joined, b, z);
-        i += 1;
-    }
-}
-
-// The vertices of the cycle get the base b.
-fn rebase_cycle(bases: &mut [u16; 512], cycle: &[u64; 8], joined: &mut [u64; 8], b: usize, m: usize)
-    requires { (m ≤ 512) × (b < m) × (length bases.old ≡ 512) × (length joined.old ≡ 8) × (length cycle.now ≡ 8) }
-    ensures { Rebased b (has_below m cycle.now) bases.old joined.old bases.new
-        joined.new }
-{
-    let mut z = sets::next(cycle, 0, m);
-    while z < m {
-        bases[z] = b as u16;
-        sets::add(joined, z);
-        z = sets::next(cycle, z + 1, m);
-    }
-}
-
-// Those that come to the class of the blossom get the base b; the set of them.
-pub fn rebase(
-    bases: &mut [u16; 512],
-    queue: &[u16; 512],
-    cycle: &[u64; 8],
-    on: &[u8; 512],
-    clock: usize,
-    b: usize,
-    m: usize,
-) -> [u64; 8]
-    requires { Rebasable m b bases.old queue.now cycle.now clock }
-    ensures { (length result ≡ 8) × (length bases.new ≡ 512)
-        × ((z : ℕ) → z < m → get_or bases.new z 0
-        ≡ new_base bases.old queue.now clock cycle.now on.now b z)
-        × ((z : ℕ) → z < m → joins_blossom bases.old queue.now clock cycle.now on.now z ≡ true
-        → has result z ≡ true) }
-{
-    let mut joined = [0u64; 8];
-    rebase_queued(bases, queue, on, &mut joined, clock, b, m);
-    rebase_cycle(bases, cycle, &mut joined, b, m);
-    joined
-}
-
-// The vertices of the cycle become even and come to the end of the queue; how many are queued then.
-pub fn promote(
-    labels: &mut [u8; 512],
-    queue: &mut [u16; 512],
-    sides: &[u8; 512],
-    cycle: &[u64; 8],
-    clock: usize,
-    m: usize,
-) -> usize
-    requires { (m ≤ 512) × (clock + count (on_cycle m sides.now) m ≤ 512) × (length labels.old ≡ 512) × (length queue.old ≡ 512)
-        × (length cycle.now ≡ 8) × ((v : ℕ) → v < m → has cycle.now v ≡ false → get_or sides.now v 0 ≡ 0) }
-    ensures { Promoted m m sides.now labels.old queue.old clock labels.new
-        queue.new result }
-{
-    let mut k = clock;
-    let mut z = sets::next(cycle, 0, m);
-    while z < m {
-        if sides[z] != 0 {
-            labels[z] = 1;
-            queue[k] = z as u16;
-            k += 1;
+impl Search {
+    // The vertex z gets the base b and is put into the set of those that joined, if its base is on.
+    fn rebase_vertex(&mut self, marks: &Marks, joined: &mut [u64; 8], b: usize, z: usize)
+        requires { (z < 512) × (b < 512) × (get_or self.old.bases z 0 < 512) }
+        ensures { Rebased b (λ y. eqb y z && base_on self.old.bases marks.now.on z) self.old.bases joined.old self.new.bases joined.new
+            × (self.new ≡ with_bases self.old self.new.bases) }
+    {
+        let c = usize::from(self.bases[z]);
+        if marks.on[c] {
+            self.bases[z] = b as u16;
+            add(joined, z);
         }
-        z = sets::next(cycle, z + 1, m);
     }
-    k
+
+    // The queued vertices whose base is on get the base b.
+    fn rebase_queued(&mut self, marks: &Marks, joined: &mut [u64; 8], b: usize, m: usize)
+        requires { (m ≤ 512) × (b < m) × (self.old.clock ≤ 512) × ((z : ℕ) → z < m → get_or self.old.bases z 0 < m)
+            × ((i : ℕ) → i < self.old.clock → get_or self.old.queue i 0 < m) }
+        ensures { Rebased b (λ z. among self.old.queue self.old.clock z && base_on self.old.bases marks.now.on z)
+            self.old.bases joined.old self.new.bases joined.new
+            × (self.new ≡ with_bases self.old self.new.bases) }
+    {
+        for i in 0..self.clock {
+            let z = usize::from(self.queue[i]);
+            self.rebase_vertex(marks, joined, b, z);
+        }
+    }
+
+    // The vertices of the cycle get the base b.
+    fn rebase_cycle(&mut self, marks: &Marks, joined: &mut [u64; 8], b: usize, m: usize)
+        requires { (m ≤ 512) × (b < m) }
+        ensures { Rebased b (has_below m marks.now.cycle) self.old.bases joined.old self.new.bases joined.new
+            × (self.new ≡ with_bases self.old self.new.bases) }
+    {
+        for z in members(&marks.cycle, 0, m) {
+            self.bases[z] = b as u16;
+            add(joined, z);
+        }
+    }
+
+    // Those that come to the class of the blossom get the base b; the set of them.
+    pub fn rebase(&mut self, marks: &Marks, b: usize, m: usize) -> [u64; 8]
+        requires { Rebasable m b self.old }
+        ensures { BlossomBased m b self.old marks.now self.new result }
+    {
+        let mut joined = [0u64; 8];
+        self.rebase_queued(marks, &mut joined, b, m);
+        self.rebase_cycle(marks, &mut joined, b, m);
+        joined
+    }
+
+    // The vertices of the cycle become even and come to the end of the queue.
+    pub fn promote(&mut self, marks: &Marks, m: usize)
+        requires { (m ≤ 512) × (self.old.clock + count (on_cycle m marks.now.sides) m ≤ 512)
+            × ((v : ℕ) → v < m → has marks.now.cycle v ≡ false → get_or marks.now.sides v Neither ≡ Neither) }
+        ensures { Promoted m m marks.now.sides self.old.labels self.old.queue self.old.clock self.new.labels self.new.queue self.new.clock
+            × (self.new ≡ with_queue self.old self.new.labels self.new.queue self.new.clock) }
+    {
+        for z in members(&marks.cycle, 0, m) {
+            if is_on(marks.sides[z]) {
+                self.labels[z] = VertexLabel::Even;
+                self.queue[self.clock] = z as u16;
+                self.clock += 1;
+            }
+        }
+    }
 }

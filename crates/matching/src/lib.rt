@@ -4,7 +4,6 @@
 pub mod blossoms;
 pub mod climbs;
 pub mod counts;
-pub mod edges;
 pub mod labels;
 pub mod matchings;
 pub mod maxima;

@@ -1,32 +1,30 @@
 // The maximum matching.
-ghost use Rattle.std.specs.Prelude.{◌≡◌, length};
 ghost use Rattle.ring.specs.Requests.{requests_of, ValidRequests};
 ghost use Rattle.matching.specs.Maximum.{MaximumMatching};
-ghost use Rattle.matching.specs.Internal.Progress.{Mapped, Ready};
+ghost use Rattle.matching.specs.Internal.Progress.{Ready};
 
 use super::counts::pair_count;
+use super::labels::VertexLabel;
 use super::matchings::Matching;
 use super::roots::{search_from, settle_alone};
 use super::starts::{greedy, identity};
-use neighbours::prefixes;
+use neighbours::{Graph, prefixes};
 
 // The state that the searches begin with: a matching that is found fast, and no request reached but those that are adjacent to none.
-pub fn start(ends: &[u16], sets: &[[u64; 8]], m: usize) -> Matching
-    requires { (m ≡ length (requests_of ends.now)) × Mapped (requests_of ends.now) sets.now }
-    ensures { Ready (requests_of ends.now) sets.now result m }
+pub fn start(graph: &Graph) -> Matching
+    ensures { Ready (requests_of graph.now.ends.now) result }
 {
     let mut bases = identity();
     let mut mates = bases;
-    greedy(ends, sets, &mut mates, m);
-    let mut labels = [0u8; 512];
-    let root = settle_alone(ends, sets, &mates, &mut labels, &mut bases, 0, m);
-    let size = pair_count(&mates, m);
+    greedy(graph, &mut mates);
+    let mut labels = [VertexLabel::Free; 512];
+    let root = settle_alone(graph, &mates, &mut labels, &mut bases, 0);
     Matching {
-        mates: mates,
-        labels: labels,
-        bases: bases,
-        root: root,
-        size: size,
+        mates,
+        labels,
+        bases,
+        root,
+        size: pair_count(&mates, graph.count),
     }
 }
 
@@ -36,10 +34,8 @@ pub fn maximum(ends: &[u16]) -> Matching
     requires { ValidRequests 256 (requests_of ends.now) }
     ensures { MaximumMatching (requests_of ends.now) result }
 {
-    let m = ends.len() / 2;
-    let none = [0u64; 8];
-    let mut sets = [none; 257];
+    let mut sets = [[0; 8]; 257];
     prefixes(ends, &mut sets);
-    let first = start(ends, &sets, m);
-    search_from(ends, &sets, first, m)
+    let graph = Graph::new(ends, &sets);
+    search_from(&graph, start(&graph))
 }

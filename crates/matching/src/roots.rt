@@ -1,164 +1,134 @@
 // The searches from all exposed requests.
-ghost use Rattle.std.specs.Prelude.{◌≡◌, ◌&&◌, ◌<◌, ◌≤◌, eqb, ltb, length, get_or};
+ghost use Rattle.std.specs.Prelude.{◌≡◌, ◌&&◌, ◌<◌, ◌≤◌, not, eqb, length, get_or};
 ghost use Rattle.ring.specs.Requests.{requests_of};
+ghost use Rattle.matching.specs.declared.labels.VertexLabel.TheVariants.{Free};
+ghost use Rattle.matching.specs.Maximum.{is_frozen};
 ghost use Rattle.matching.specs.Internal.Adjacency.{Alone};
 ghost use Rattle.matching.specs.Internal.Search.{Square};
-ghost use Rattle.matching.specs.Internal.Progress.{Mapped, Due, Rooted, Ready};
+ghost use Rattle.matching.specs.Internal.Progress.{Due, Rooted, Ready};
 
 use super::counts::pair_count;
-use super::matchings::Matching;
-use super::searches::search;
-use neighbours::neighbours;
-use ring::numbers::wide;
-use sets::next;
+use super::labels::VertexLabel;
+use super::matchings::{Matching, Search};
+use neighbours::Graph;
+use sets::members;
 
 // Whether r is exposed and not frozen.
-fn is_open(mates: &[u16; 512], labels: &[u8; 512], r: usize) -> bool
+fn is_open(mates: &[u16; 512], labels: &[VertexLabel; 512], r: usize) -> bool
     requires { r < 512 }
-    ensures { result ≡ (eqb (get_or mates.now r 0) r && ltb (get_or labels.now r 0) 3) }
+    ensures { result ≡ (eqb (get_or mates.now r 0) r && not (is_frozen (get_or labels.now r Free))) }
 {
-    if wide(mates[r]) != r {
-        return false;
-    }
-    labels[r] < 3
+    usize::from(mates[r]) == r && !labels[r].is_frozen()
 }
 
 // Whether no request is adjacent to r.
-fn alone(ends: &[u16], sets: &[[u64; 8]], r: usize, m: usize) -> bool
-    requires { (m ≡ length (requests_of ends.now)) × (r < m) × Mapped (requests_of ends.now) sets.now }
-    ensures { Alone (requests_of ends.now) r result }
+fn alone(graph: &Graph, r: usize) -> bool
+    requires { r < graph.now.count }
+    ensures { Alone (requests_of graph.now.ends.now) r result }
 {
-    let mut around = [0u64; 8];
-    neighbours(ends, sets, r, &mut around);
-    let first = next(&around, 0, m);
-    if first != r {
-        return false;
+    let mut around = [0; 8];
+    graph.neighbours(r, &mut around);
+    for z in members(&around, 0, graph.count) {
+        if z != r {
+            return false;
+        }
     }
-    next(&around, r + 1, m) == m
+    true
 }
 
-// From `from` on, freezes the open requests to which none is adjacent, up to the first from which a search is due; gives that one, or m.
+// From `from` on, freezes the open requests to which none is adjacent, up to the first from which a search is due; gives that one, or the
+// number of requests.
 pub fn settle_alone(
-    ends: &[u16],
-    sets: &[[u64; 8]],
+    graph: &Graph,
     mates: &[u16; 512],
-    labels: &mut [u8; 512],
+    labels: &mut [VertexLabel; 512],
     bases: &mut [u16; 512],
     from: usize,
-    m: usize,
 ) -> usize
-    requires { Due (requests_of ends.now) sets.now mates.now labels.old bases.old from m }
-    ensures { Rooted (requests_of ends.now) sets.now mates.now labels.new
-        bases.new result m × (from ≤ result) }
+    requires { Due (requests_of graph.now.ends.now) mates.now labels.old bases.old from }
+    ensures { Rooted (requests_of graph.now.ends.now) mates.now labels.new bases.new result × (from ≤ result) }
 {
-    let mut r = from;
-    while r < m {
+    for r in from..graph.count {
         if is_open(mates, labels, r) {
-            if !alone(ends, sets, r, m) {
+            if !alone(graph, r) {
                 return r;
             }
-            labels[r] = 3;
+            labels[r] = VertexLabel::FrozenEven;
             bases[r] = r as u16;
         }
-        r += 1;
     }
-    m
+    graph.count
 }
 
-// Searches from each open request from the root on that has a neighbour, with a row for each request. The state is taken apart for the
-// searches, which are lent its arrays one by one.
-fn search_all(
-    ends: &[u16],
-    sets: &[[u64; 8]],
-    rows: &mut [[u16; 512]],
-    matching: Matching,
-    m: usize,
-) -> Matching
-    requires { Ready (requests_of ends.now) sets.now matching m × Square m rows.old }
-    ensures { Ready (requests_of ends.now) sets.now result m × (result.root ≡ m) }
+// Searches from each open request from the root on that has a neighbour, with a row for each request.
+fn search_all(graph: &Graph, rows: &mut [[u16; 512]], matching: Matching) -> Matching
+    requires { Ready (requests_of graph.now.ends.now) matching × Square graph.now.count rows.old }
+    ensures { Ready (requests_of graph.now.ends.now) result × (result.root ≡ graph.now.count) }
 {
-    let mut mates = matching.mates;
-    let mut labels = matching.labels;
-    let mut bases = matching.bases;
-    let mut parents = [0u16; 512];
-    let mut queue = [0u16; 512];
-    let mut r = matching.root;
-    while r < m {
-        search(
-            ends,
-            sets,
-            rows,
-            &mut mates,
-            &mut labels,
-            &mut bases,
-            &mut parents,
-            &mut queue,
-            r,
-            m,
+    let Matching {
+        mates,
+        labels,
+        bases,
+        root,
+        ..
+    } = matching;
+    let mut search = Search {
+        mates,
+        labels,
+        bases,
+        parents: [0; 512],
+        queue: [0; 512],
+        clock: 0,
+    };
+    let mut r = root;
+    while r < graph.count {
+        search.run(graph, rows, r);
+        r = settle_alone(
+            graph,
+            &search.mates,
+            &mut search.labels,
+            &mut search.bases,
+            r + 1,
         );
-        r = settle_alone(ends, sets, &mates, &mut labels, &mut bases, r + 1, m);
     }
+    let size = pair_count(&search.mates, graph.count);
+    let Search {
+        mates,
+        labels,
+        bases,
+        ..
+    } = search;
     Matching {
-        mates: mates,
-        labels: labels,
-        bases: bases,
+        mates,
+        labels,
+        bases,
         root: r,
-        size: pair_count(&mates, m),
+        size,
     }
 }
 
-fn with_64_rows(ends: &[u16], sets: &[[u64; 8]], matching: Matching, m: usize) -> Matching
-    requires { Ready (requests_of ends.now) sets.now matching m × (m ≤ 64) }
-    ensures { Ready (requests_of ends.now) sets.now result m × (result.root ≡ m) }
+// The same, with so many rows.
+fn with_rows<const ROWS: usize>(graph: &Graph, matching: Matching) -> Matching
+    requires { Ready (requests_of graph.now.ends.now) matching × (graph.now.count ≤ ROWS) × (ROWS ≤ 512) }
+    ensures { Ready (requests_of graph.now.ends.now) result × (result.root ≡ graph.now.count) }
 {
     let zeros = [0u16; 512];
-    let mut rows = [zeros; 64];
-    search_all(ends, sets, &mut rows, matching, m)
-}
-
-fn with_128_rows(ends: &[u16], sets: &[[u64; 8]], matching: Matching, m: usize) -> Matching
-    requires { Ready (requests_of ends.now) sets.now matching m × (m ≤ 128) }
-    ensures { Ready (requests_of ends.now) sets.now result m × (result.root ≡ m) }
-{
-    let zeros = [0u16; 512];
-    let mut rows = [zeros; 128];
-    search_all(ends, sets, &mut rows, matching, m)
-}
-
-fn with_256_rows(ends: &[u16], sets: &[[u64; 8]], matching: Matching, m: usize) -> Matching
-    requires { Ready (requests_of ends.now) sets.now matching m × (m ≤ 256) }
-    ensures { Ready (requests_of ends.now) sets.now result m × (result.root ≡ m) }
-{
-    let zeros = [0u16; 512];
-    let mut rows = [zeros; 256];
-    search_all(ends, sets, &mut rows, matching, m)
-}
-
-fn with_512_rows(ends: &[u16], sets: &[[u64; 8]], matching: Matching, m: usize) -> Matching
-    requires { Ready (requests_of ends.now) sets.now matching m × (m ≤ 512) }
-    ensures { Ready (requests_of ends.now) sets.now result m × (result.root ≡ m) }
-{
-    let zeros = [0u16; 512];
-    let mut rows = [zeros; 512];
-    search_all(ends, sets, &mut rows, matching, m)
+    let mut rows = [zeros; ROWS];
+    search_all(graph, &mut rows, matching)
 }
 
 // The same. Rows are what takes memory and time to lay out, so a short list gets few of them.
-pub fn search_from(ends: &[u16], sets: &[[u64; 8]], matching: Matching, m: usize) -> Matching
-    requires { Ready (requests_of ends.now) sets.now matching m }
-    ensures { Ready (requests_of ends.now) sets.now result m × (result.root ≡ m) }
+pub fn search_from(graph: &Graph, matching: Matching) -> Matching
+    requires { Ready (requests_of graph.now.ends.now) matching }
+    ensures { Ready (requests_of graph.now.ends.now) result × (result.root ≡ graph.now.count) }
 {
-    if matching.root == m {
+    if matching.root == graph.count {
         return matching;
     }
-    if m <= 64 {
-        return with_64_rows(ends, sets, matching, m);
+    match graph.count {
+        0..=64 => with_rows::<64>(graph, matching),
+        65..=128 => with_rows::<128>(graph, matching),
+        129..=256 => with_rows::<256>(graph, matching),
+        _ => with_rows::<512>(graph, matching),
     }
-    if m <= 128 {
-        return with_128_rows(ends, sets, matching, m);
-    }
-    if m <= 256 {
-        return with_256_rows(ends, sets, matching, m);
-    }
-    with_512_rows(ends, sets, matching, m)
 }

@@ -1,246 +1,142 @@
 // A search from an exposed vertex: it enlarges the matching, or freezes its tree.
-ghost use Rattle.std.specs.Prelude.{◌≡◌, ℕ, ◌+◌, ◌<◌, ◌≤◌, length, get_or};
+ghost use Rattle.std.specs.Prelude.{◌≡◌, ◌⊎◌, false, ℕ, ◌+◌, ◌<◌, ◌≤◌, length, get_or};
 ghost use Rattle.ring.specs.Requests.{requests_of};
-ghost use Rattle.matching.specs.Internal.Arrays.{arrays};
+ghost use Rattle.matching.specs.declared.labels.VertexLabel.TheVariants.{Free, Even};
+ghost use Rattle.matching.specs.Maximum.{is_frozen};
 ghost use Rattle.matching.specs.Internal.Search.{Square, Settled};
-ghost use Rattle.matching.specs.Internal.Progress.{Mapped, InSearch, Advanced, InScan, Stepped, Begun};
+ghost use Rattle.matching.specs.Internal.Progress.{apart_in, InSearch, Advanced, InScan, Stepped, Begun};
 
-use super::blossoms::{promote, rebase};
-use super::climbs::climb_both;
-use super::edges::{next_free, next_relevant};
-use super::labels::{freeze, unlabel};
-use super::rows::absorb;
-use super::steps::{Progress, attach, going};
-use neighbours::neighbours;
-use ring::numbers::wide;
+use super::climbs::{Marks, Side};
+use super::labels::{VertexLabel, freeze, unlabel};
+use super::matchings::Search;
+use neighbours::Graph;
+use sets::members;
 
-// The edge from x, which is being scanned, to the even y closes a blossom. Its base is where the walk up from x ends, and from y as well.
-fn blossom(
-    rows: &mut [[u16; 512]],
-    mates: &[u16; 512],
-    labels: &mut [u8; 512],
-    bases: &mut [u16; 512],
-    parents: &[u16; 512],
-    queue: &mut [u16; 512],
-    clock: usize,
-    x: usize,
-    y: usize,
-    m: usize,
-) -> Progress
-    requires { InScan (arrays mates.now labels.old bases.old parents.now queue.old clock) rows.old x y m
-        × (get_or labels.old y 0 ≡ 1) }
-    ensures { Stepped
-        (arrays mates.now labels.old bases.old parents.now queue.old clock)
-        rows.old x y m
-        (arrays mates.now labels.new bases.new parents.now queue.new result.clock)
-        rows.new result.done }
-{
-    let mut sides = [0u8; 512];
-    let mut cycle = [0u64; 8];
-    let mut on = [0u8; 512];
-    let b = climb_both(
-        rows, mates, bases, parents, &mut sides, &mut cycle, &mut on, x, y,
-    );
-    let joined = rebase(bases, queue, &cycle, &on, clock, b, m);
-    absorb(rows, labels, mates, &sides, &cycle, &joined, x, y, m);
-    let k = promote(labels, queue, &sides, &cycle, clock, m);
-    going(k)
-}
-
-// What the edge from x to y does, which is free or even and of another class.
-fn step(
-    rows: &mut [[u16; 512]],
-    mates: &mut [u16; 512],
-    labels: &mut [u8; 512],
-    bases: &mut [u16; 512],
-    parents: &mut [u16; 512],
-    queue: &mut [u16; 512],
-    clock: usize,
-    x: usize,
-    y: usize,
-    m: usize,
-) -> Progress
-    requires { InScan (arrays mates.old labels.old bases.old parents.old queue.old clock) rows.old x y m
-        × (get_or labels.old y 0 < 2) }
-    ensures { Stepped
-        (arrays mates.old labels.old bases.old parents.old queue.old clock)
-        rows.old x y m
-        (arrays mates.new labels.new bases.new parents.new queue.new result.clock)
-        rows.new result.done }
-{
-    if labels[y] == 1 {
-        return blossom(rows, mates, labels, bases, parents, queue, clock, x, y, m);
+// The parts of a search answer whether it has enlarged the matching; if not, it goes on.
+impl Search {
+    // The edge from x, which is being scanned, to the even y closes a blossom. Its base is where the walk up from x ends, and that from y
+    // as well.
+    fn blossom(&mut self, rows: &mut [[u16; 512]], x: usize, y: usize, m: usize)
+        requires { InScan self.old rows.old x y m × (get_or self.old.labels y Free ≡ Even) }
+        ensures { Stepped self.old rows.old x y m self.new rows.new false }
+    {
+        let mut marks = Marks {
+            sides: [Side::Neither; 512],
+            cycle: [0; 8],
+            on: [false; 512],
+        };
+        let b = self.climb_both(rows, &mut marks, x, y);
+        let joined = self.rebase(&marks, b, m);
+        self.absorb(rows, &marks, &joined, x, y, m);
+        self.promote(&marks, m);
     }
-    attach(rows, mates, labels, bases, parents, queue, clock, x, y)
-}
 
-// The tree grows from the vertex at place g of the queue by all its free neighbours, unless one of them is exposed.
-fn extend(
-    ends: &[u16],
-    sets: &[[u64; 8]],
-    rows: &mut [[u16; 512]],
-    mates: &mut [u16; 512],
-    labels: &mut [u8; 512],
-    bases: &mut [u16; 512],
-    parents: &mut [u16; 512],
-    queue: &mut [u16; 512],
-    clock: usize,
-    g: usize,
-) -> Progress
-    requires { ((h : ℕ)
-        × InSearch (requests_of ends.now) (arrays mates.old labels.old bases.old parents.old queue.old clock) rows.old h)
-        × (g < clock) × Mapped (requests_of ends.now) sets.now }
-    ensures { (h : ℕ)
-        → Advanced (requests_of ends.now)
-        (arrays mates.old labels.old bases.old parents.old queue.old clock)
-        rows.old h
-        (arrays mates.new labels.new bases.new parents.new queue.new result.clock)
-        rows.new result.done h }
-{
-    let m = ends.len() / 2;
-    let x = wide(queue[g]);
-    let mut around = [0u64; 8];
-    neighbours(ends, sets, x, &mut around);
-    let mut k = clock;
-    let mut y = next_free(&around, labels, 0, m);
-    while y < m {
-        let p = attach(rows, mates, labels, bases, parents, queue, k, x, y);
-        if p.done {
-            return p;
-        }
-        k = p.clock;
-        y = next_free(&around, labels, y + 1, m);
-    }
-    going(k)
-}
-
-// Scans the vertex at place h of the queue.
-fn scan(
-    ends: &[u16],
-    sets: &[[u64; 8]],
-    rows: &mut [[u16; 512]],
-    mates: &mut [u16; 512],
-    labels: &mut [u8; 512],
-    bases: &mut [u16; 512],
-    parents: &mut [u16; 512],
-    queue: &mut [u16; 512],
-    clock: usize,
-    h: usize,
-) -> Progress
-    requires { InSearch (requests_of ends.now) (arrays mates.old labels.old bases.old parents.old queue.old clock) rows.old h
-        × (h < clock) × Mapped (requests_of ends.now) sets.now }
-    ensures { Advanced (requests_of ends.now)
-        (arrays mates.old labels.old bases.old parents.old queue.old clock)
-        rows.old h
-        (arrays mates.new labels.new bases.new parents.new queue.new result.clock)
-        rows.new result.done (h + 1) }
-{
-    let m = ends.len() / 2;
-    let x = wide(queue[h]);
-    let mut around = [0u64; 8];
-    neighbours(ends, sets, x, &mut around);
-    let mut k = clock;
-    let mut y = next_relevant(&around, labels, bases, x, 0, m);
-    while y < m {
-        let p = step(rows, mates, labels, bases, parents, queue, k, x, y, m);
-        if p.done {
-            return p;
-        }
-        k = p.clock;
-        y = next_relevant(&around, labels, bases, x, y + 1, m);
-    }
-    going(k)
-}
-
-// A search from r begins: r is even and the only one queued, all others that are not frozen are free; the row of r is the
-// matching itself.
-fn begin(
-    rows: &mut [[u16; 512]],
-    mates: &[u16; 512],
-    labels: &mut [u8; 512],
-    bases: &mut [u16; 512],
-    queue: &mut [u16; 512],
-    r: usize,
-    m: usize,
-)
-    requires { (r < m) × (m ≤ 512) × (r < length rows.old) × (length labels.old ≡ 512) }
-    ensures { Begun m r mates.now labels.old bases.old queue.old rows.old
-        labels.new bases.new queue.new rows.new }
-{
-    rows[r] = *mates;
-    unlabel(labels, m);
-    labels[r] = 1;
-    bases[r] = r as u16;
-    queue[0] = r as u16;
-}
-
-// The tree of a search grows until it enlarges the matching or all its even vertices are scanned. Every vertex of the queue is extended
-// from before the next one is scanned, so that a blossom is closed only where the tree cannot grow.
-fn explore(
-    ends: &[u16],
-    sets: &[[u64; 8]],
-    rows: &mut [[u16; 512]],
-    mates: &mut [u16; 512],
-    labels: &mut [u8; 512],
-    bases: &mut [u16; 512],
-    parents: &mut [u16; 512],
-    queue: &mut [u16; 512],
-) -> Progress
-    requires { InSearch (requests_of ends.now) (arrays mates.old labels.old bases.old parents.old queue.old 1) rows.old 0
-        × Mapped (requests_of ends.now) sets.now }
-    ensures { Advanced (requests_of ends.now)
-        (arrays mates.old labels.old bases.old parents.old queue.old 1)
-        rows.old 0
-        (arrays mates.new labels.new bases.new parents.new queue.new result.clock)
-        rows.new result.done result.clock }
-{
-    let mut k = 1;
-    let mut g = 0;
-    let mut h = 0;
-    while h < k {
-        if g < k {
-            let p = extend(ends, sets, rows, mates, labels, bases, parents, queue, k, g);
-            if p.done {
-                return p;
+    // What the edge from x to y does, which is free or even and of another class.
+    fn step(&mut self, rows: &mut [[u16; 512]], x: usize, y: usize, m: usize) -> bool
+        requires { InScan self.old rows.old x y m × ((get_or self.old.labels y Free ≡ Free) ⊎ (get_or self.old.labels y Free ≡ Even)) }
+        ensures { Stepped self.old rows.old x y m self.new rows.new result }
+    {
+        match self.labels[y] {
+            VertexLabel::Even => {
+                self.blossom(rows, x, y, m);
+                false
             }
-            k = p.clock;
-            g += 1;
-        } else {
-            let p = scan(ends, sets, rows, mates, labels, bases, parents, queue, k, h);
-            if p.done {
-                return p;
-            }
-            k = p.clock;
-            h += 1;
+            _ => self.attach(rows, x, y),
         }
     }
-    going(k)
-}
 
-// A search from r, which is exposed and not frozen.
-pub fn search(
-    ends: &[u16],
-    sets: &[[u64; 8]],
-    rows: &mut [[u16; 512]],
-    mates: &mut [u16; 512],
-    labels: &mut [u8; 512],
-    bases: &mut [u16; 512],
-    parents: &mut [u16; 512],
-    queue: &mut [u16; 512],
-    r: usize,
-    m: usize,
-)
-    requires { Settled (requests_of ends.now) (arrays mates.old labels.old bases.old parents.old queue.old 0) r
-        × Square m rows.old × (m ≡ length (requests_of ends.now)) × (r < m) × (get_or mates.old r 0 ≡ r) × (get_or labels.old r 0 < 3)
-        × Mapped (requests_of ends.now) sets.now }
-    ensures { Settled (requests_of ends.now)
-        (arrays mates.new labels.new bases.new parents.new queue.new 0) (r + 1)
-        × Square m rows.new }
-{
-    begin(rows, mates, labels, bases, queue, r, m);
-    let p = explore(ends, sets, rows, mates, labels, bases, parents, queue);
-    if p.done {
-        return;
+    // The tree grows from the vertex at place g of the queue by all its free neighbours, unless one of them is exposed.
+    fn extend(&mut self, graph: &Graph, rows: &mut [[u16; 512]], g: usize) -> bool
+        requires { ((h : ℕ) × InSearch (requests_of graph.now.ends.now) self.old rows.old h) × (g < self.old.clock) }
+        ensures { (h : ℕ) → Advanced (requests_of graph.now.ends.now) self.old rows.old h self.new rows.new result h }
+    {
+        let x = usize::from(self.queue[g]);
+        let mut around = [0; 8];
+        graph.neighbours(x, &mut around);
+        for y in members(&around, 0, graph.count) {
+            if self.labels[y] == VertexLabel::Free && self.attach(rows, x, y) {
+                return true;
+            }
+        }
+        false
     }
-    freeze(labels, m);
+
+    // Whether y is free, or even and of another class than x.
+    fn is_apart(&self, x: usize, y: usize) -> bool
+        requires { (x < 512) × (y < 512) }
+        ensures { result ≡ apart_in self.now.labels self.now.bases x y }
+    {
+        match self.labels[y] {
+            VertexLabel::Free => true,
+            VertexLabel::Even => self.bases[x] != self.bases[y],
+            _ => false,
+        }
+    }
+
+    // Scans the vertex at place h of the queue.
+    fn scan(&mut self, graph: &Graph, rows: &mut [[u16; 512]], h: usize) -> bool
+        requires { InSearch (requests_of graph.now.ends.now) self.old rows.old h × (h < self.old.clock) }
+        ensures { Advanced (requests_of graph.now.ends.now) self.old rows.old h self.new rows.new result (h + 1) }
+    {
+        let m = graph.count;
+        let x = usize::from(self.queue[h]);
+        let mut around = [0; 8];
+        graph.neighbours(x, &mut around);
+        for y in members(&around, 0, m) {
+            if self.is_apart(x, y) && self.step(rows, x, y, m) {
+                return true;
+            }
+        }
+        false
+    }
+
+    // A search from r begins: r is even and the only one queued, all others that are not frozen are free; the row of r is the
+    // matching itself.
+    fn begin(&mut self, rows: &mut [[u16; 512]], r: usize, m: usize)
+        requires { (r < m) × (m ≤ 512) × (r < length rows.old) }
+        ensures { Begun m r self.old rows.old self.new rows.new }
+    {
+        rows[r] = self.mates;
+        unlabel(&mut self.labels, m);
+        self.labels[r] = VertexLabel::Even;
+        self.bases[r] = r as u16;
+        self.queue[0] = r as u16;
+        self.clock = 1;
+    }
+
+    // The tree of a search grows until it enlarges the matching or all its even vertices are scanned. Every vertex of the queue is extended
+    // from before the next one is scanned, so that a blossom is closed only where the tree cannot grow.
+    fn explore(&mut self, graph: &Graph, rows: &mut [[u16; 512]]) -> bool
+        requires { InSearch (requests_of graph.now.ends.now) self.old rows.old 0 }
+        ensures { Advanced (requests_of graph.now.ends.now) self.old rows.old 0 self.new rows.new result self.new.clock }
+    {
+        let mut g = 0;
+        let mut h = 0;
+        while h < self.clock {
+            if g < self.clock {
+                if self.extend(graph, rows, g) {
+                    return true;
+                }
+                g += 1;
+            } else {
+                if self.scan(graph, rows, h) {
+                    return true;
+                }
+                h += 1;
+            }
+        }
+        false
+    }
+
+    // A search from r, which is exposed and not frozen.
+    pub fn run(&mut self, graph: &Graph, rows: &mut [[u16; 512]], r: usize)
+        requires { Settled (requests_of graph.now.ends.now) self.old r × Square graph.now.count rows.old × (r < graph.now.count)
+            × (get_or self.old.mates r 0 ≡ r) × (is_frozen (get_or self.old.labels r Free) ≡ false) }
+        ensures { Settled (requests_of graph.now.ends.now) self.new (r + 1) × Square graph.now.count rows.new }
+    {
+        self.begin(rows, r, graph.count);
+        if !self.explore(graph, rows) {
+            freeze(&mut self.labels, graph.count);
+        }
+    }
 }

@@ -1,26 +1,9 @@
 // The steps of a search that grow the tree or enlarge the matching.
-ghost use Rattle.std.specs.Prelude.{◌≡◌, false, [], ◌+◌, ◌<◌, length, get_or, set};
-ghost use Rattle.matching.specs.Internal.Arrays.{arrays};
-ghost use Rattle.matching.specs.Internal.Steps.{grown_row, Attachable, Attached};
+ghost use Rattle.std.specs.Prelude.{◌≡◌, [], ◌<◌, length, get_or, set};
+ghost use Rattle.matching.specs.Internal.Steps.{grown_row, grown_arrays, enlarged_arrays, Attachable, Attached};
 
-use ring::numbers::wide;
-
-// What a part of a search leaves: how many vertices are queued, and whether it has enlarged the matching.
-#[derive(Clone, Copy)]
-pub struct Progress {
-    pub clock: usize,
-    pub done: bool,
-}
-
-// The search goes on, with so many vertices queued.
-pub fn going(clock: usize) -> Progress
-    ensures { result ≡ record { clock = clock; done = false } }
-{
-    Progress {
-        clock: clock,
-        done: false,
-    }
-}
+use super::labels::VertexLabel;
+use super::matchings::Search;
 
 // Row c becomes a copy of row x.
 pub fn copy_row(rows: &mut [[u16; 512]], x: usize, c: usize)
@@ -49,67 +32,42 @@ fn grow_row(rows: &mut [[u16; 512]], x: usize, y: usize, c: usize)
     pair_in_row(&mut rows[c], x, y, c);
 }
 
-// The tree grows by y, below x, and its mate c.
-fn grow(
-    labels: &mut [u8; 512],
-    bases: &mut [u16; 512],
-    parents: &mut [u16; 512],
-    queue: &mut [u16; 512],
-    clock: usize,
-    x: usize,
-    y: usize,
-    c: usize,
-)
-    requires { (x < 512) × (y < 512) × (c < 512) × (clock < 512) × (length labels.old ≡ 512) × (length bases.old ≡ 512)
-        × (length parents.old ≡ 512) × (length queue.old ≡ 512) }
-    ensures { (labels.new ≡ set (set labels.old y 2) c 1) × (bases.new ≡ set bases.old c c)
-        × (parents.new ≡ set parents.old y x) × (queue.new ≡ set queue.old clock c) }
-{
-    labels[y] = 2;
-    labels[c] = 1;
-    bases[c] = c as u16;
-    parents[y] = x as u16;
-    queue[clock] = c as u16;
-}
-
-// The mates become row x with x and y paired.
-fn enlarge(rows: &[[u16; 512]], mates: &mut [u16; 512], x: usize, y: usize)
-    requires { (x < 512) × (y < 512) × (x < length rows.now) }
-    ensures { mates.new ≡ set (set (get_or rows.now x []) x y) y x }
-{
-    *mates = rows[x];
-    mates[x] = y as u16;
-    mates[y] = x as u16;
-}
-
-// The edge from the even x to the free y enlarges the matching, or the tree grows by y and its mate.
-pub fn attach(
-    rows: &mut [[u16; 512]],
-    mates: &mut [u16; 512],
-    labels: &mut [u8; 512],
-    bases: &mut [u16; 512],
-    parents: &mut [u16; 512],
-    queue: &mut [u16; 512],
-    clock: usize,
-    x: usize,
-    y: usize,
-) -> Progress
-    requires { Attachable (arrays mates.old labels.old bases.old parents.old queue.old clock) rows.old x y }
-    ensures { Attached
-        (arrays mates.old labels.old bases.old parents.old queue.old clock)
-        rows.old x y
-        (arrays mates.new labels.new bases.new parents.new queue.new result.clock)
-        rows.new result.done }
-{
-    let c = wide(mates[y]);
-    if c == y {
-        enlarge(rows, mates, x, y);
-        return Progress {
-            clock: clock,
-            done: true,
-        };
+impl Search {
+    // The tree grows by y, below x, and its mate c.
+    fn grow(&mut self, x: usize, y: usize, c: usize)
+        requires { (x < 512) × (y < 512) × (c < 512) × (self.old.clock < 512) }
+        ensures { self.new ≡ grown_arrays self.old x y c }
+    {
+        self.labels[y] = VertexLabel::Odd;
+        self.labels[c] = VertexLabel::Even;
+        self.bases[c] = c as u16;
+        self.parents[y] = x as u16;
+        self.queue[self.clock] = c as u16;
+        self.clock += 1;
     }
-    grow_row(rows, x, y, c);
-    grow(labels, bases, parents, queue, clock, x, y, c);
-    going(clock + 1)
+
+    // The mates become row x with x and y paired.
+    fn enlarge(&mut self, rows: &[[u16; 512]], x: usize, y: usize)
+        requires { (x < 512) × (y < 512) × (x < length rows.now) }
+        ensures { self.new ≡ enlarged_arrays self.old rows.now x y }
+    {
+        self.mates = rows[x];
+        self.mates[x] = y as u16;
+        self.mates[y] = x as u16;
+    }
+
+    // The edge from the even x to the free y enlarges the matching, and the answer is true, or the tree grows by y and its mate.
+    pub fn attach(&mut self, rows: &mut [[u16; 512]], x: usize, y: usize) -> bool
+        requires { Attachable self.old rows.old x y }
+        ensures { Attached self.old rows.old x y self.new rows.new result }
+    {
+        let c = usize::from(self.mates[y]);
+        if c == y {
+            self.enlarge(rows, x, y);
+            return true;
+        }
+        grow_row(rows, x, y, c);
+        self.grow(x, y, c);
+        false
+    }
 }

@@ -194,6 +194,3 @@ done_end R sets x all s = record {
 
 pub prefixes_node_sets : (R : List Request) (sets : List (List ℕ)) → Prefixes R sets → NodeSets sets
 prefixes_node_sets R sets s = record { many = s.many; wide = s.wide }
-
-pub empty_many : (sets : List (List ℕ)) → sets ≡ empty → length sets ≡ 257
-empty_many sets e = ap length e ∙ length-replicate 257 (replicate {A = ℕ} 8 0)

@@ -1,4 +1,4 @@
--- Entries, five to a line, on their way into a bundle; and the serials of a preview on their way into values.
+-- Entries, five to a line, on their way into a bundle, and what a preview of it gives.
 use Prim.Native.Nat.{ℕ, ◌+◌, ◌*◌, ◌/◌, ◌%◌, ◌≤◌, ◌<◌}
 use mathlib.Core.Path.{◌≡◌, refl, sym, ◌∙◌, ap, subst}
 use mathlib.Core.List.{List, [], ◌∷◌, ◌++◌, append-nil}
@@ -6,16 +6,16 @@ use native.Mathlib.Omega.{arith}
 use lib.ListN.{length, drop, get_or, set, drop_of_length-le}
 use lib.Seq.{append_snoc}
 use borrow.Author.Tests.{eq-eqb, ne_eqb}
+use Rattle.std.specs.Prelude.{Result}
+use Rattle.ring.specs.declared.refusals.Refusal.{Refusal}
 use Rattle.ring.proofs.ListLaws.{drop_next}
 use Rattle.book.specs.declared.books.Book.{Book}
-use Rattle.bundles.specs.declared.bundles.Line.{Line}
+use Rattle.book.specs.declared.grants.Line.{Line}
 use Rattle.bundles.specs.declared.bundles.Bundle.{Bundle}
-use Rattle.bundles.specs.declared.previews.PreviewAnswer.{PreviewAnswer}
 use Rattle.bundles.specs.declared.previews.Previewed.{Previewed}
-use Rattle.bundles.specs.Previews.{serials_of, previewed, previewed_all, preview_numbers, preview_in_numbers}
+use Rattle.bundles.specs.Previews.{previewed, previewed_all, preview_in_numbers}
 use Rattle.bundles.specs.Internal.Bundles.{Bundled}
 use Rattle.bundles.proofs.BundleLaws.{bundle_says}
-use Rattle.outcomes.specs.Outcomes.{put_from}
 use Rattle.outcomes.specs.Entries.{line_at, fives, lines_of_entries}
 
 -- whether every entry is of a line
@@ -95,22 +95,8 @@ module _ (entries : List ℕ) (i : ℕ) {bundle : Bundle} (f : Filling entries i
       ∙ (ap (λ (xs : List ℕ). f.before ++ fives xs) (sym (drop_of_length-le entries k)) ∙ (f.same ∙ sym (lines_all entries h))))
       f.has
 
--- one serial more
-pub put_next : (serials values whole : List ℕ) (i : ℕ) → i < length serials → put_from (i + 3) (drop i serials) values ≡ whole
-    → put_from (i + 1 + 3) (drop (i + 1) serials) (set values (i + 3) (get_or serials i 0)) ≡ whole
-put_next serials values whole i h e =
-    let k : i + 1 + 3 ≡ i + 3 + 1 = omega arith in
-    ap (λ (j : ℕ). put_from j (drop (i + 1) serials) (set values (i + 3) (get_or serials i 0))) k
-    ∙ (ap (λ (xs : List ℕ). put_from (i + 3) xs values) (sym (drop_next serials i 0 h)) ∙ e)
-
-pub put_ended : (serials values whole : List ℕ) (i : ℕ) → length serials ≤ i → put_from (i + 3) (drop i serials) values ≡ whole
-    → values ≡ whole
-put_ended serials values whole i h e = ap (λ (xs : List ℕ). put_from (i + 3) xs values) (sym (drop_of_length-le serials h)) ∙ e
-
--- the numbers of a preview go by its answer
-pub by_preview : (b : Book) (entries : List ℕ) (bundle : Bundle) {p : Previewed} {a : PreviewAnswer}
-    → p ≡ previewed b bundle.count bundle.lines → Bundled bundle (lines_of_entries entries) → p.answer ≡ a
-    → preview_numbers a p.count (serials_of p) ≡ preview_in_numbers (previewed_all b (lines_of_entries entries))
-by_preview b entries bundle {p} {a} e has f =
-    ap (λ (x : PreviewAnswer). preview_numbers x p.count (serials_of p)) (sym f)
-    ∙ ap preview_in_numbers (e ∙ bundle_says b bundle (lines_of_entries entries) has)
+-- the numbers of a preview go by its lines
+pub by_preview : (b : Book) (entries : List ℕ) (bundle : Bundle) {p : Result Previewed Refusal}
+    → p ≡ previewed b bundle.count bundle.lines → Bundled bundle (lines_of_entries entries)
+    → preview_in_numbers p ≡ preview_in_numbers (previewed_all b (lines_of_entries entries))
+by_preview b entries bundle e has = ap preview_in_numbers (e ∙ bundle_says b bundle (lines_of_entries entries) has)

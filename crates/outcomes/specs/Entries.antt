@@ -1,6 +1,6 @@
 -- Numbers and lines of a bundle, as entries of a slice.
 use Rattle.std.specs.Prelude.{ℕ, ◌+◌, ◌/◌, ◌%◌, cond, List, [], ◌∷◌, eqb, length, get_or}
-use Rattle.bundles.specs.declared.bundles.Line.{Line}
+use Rattle.book.specs.declared.grants.Line.{Line}
 
 -- a number of 32 bits in two values: the low 16 bits, and the high ones
 abbrev pub halves : ℕ → List ℕ

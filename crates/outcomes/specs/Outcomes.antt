@@ -1,6 +1,7 @@
 -- What a call comes to, in numbers.
-use Rattle.std.specs.Prelude.{ℕ, ◌+◌, ◌≡◌, cond, List, [], ◌∷◌, eqb, set}
-use Rattle.ring.specs.Answers.{InNumbers}
+use Rattle.std.specs.Prelude.{ℕ, ◌+◌, ◌≡◌, cond, List, [], ◌∷◌, eqb, set, Result, Ok, Err}
+use Rattle.ring.specs.declared.refusals.Refusal.{Refusal}
+use Rattle.ring.specs.Answers.{InNumbers, gives, refuses}
 
 -- values put from entry i on; a slice that is too short gets as many as fit
 abbrev pub put_from : ℕ → List ℕ → List ℕ → List ℕ
@@ -12,10 +13,19 @@ pub record Answered (answer : InNumbers) (values values-after : List ℕ) (resul
   pub numbered : result ≡ answer.number
   pub filled : values-after ≡ put_from 0 answer.values values
 
+-- an operation that gives values, or refuses
+abbrev pub in_numbers : Result (List ℕ) Refusal → InNumbers
+in_numbers (Ok values) = gives values
+in_numbers (Err r) = refuses r
+
 -- the answer of a change, and the lent buffer after it
 pub record Outcome : Type 0 where
   pub answer : InNumbers
   pub buffer : List ℕ
+
+-- what a change gave, and the buffer that it left
+abbrev pub outcome_of : Result (List ℕ) Refusal → List ℕ → Outcome
+outcome_of r buffer = record { answer = in_numbers r; buffer = buffer }
 
 -- the promise of a change
 pub record Changed (outcome : Outcome) (buffer-after values values-after : List ℕ) (result : ℕ) : Type 0 where

@@ -1,95 +1,53 @@
-// Changes of a book that is stored behind them.
-ghost use Rattle.std.specs.Prelude.{[], ◌∷◌};
+// Changes of a book that is stored behind them: they give the length of its stored form, behind the serial of a new circuit.
+ghost use Rattle.std.specs.Prelude.{[], ◌≡◌};
 ghost use Rattle.book.specs.Books.{Valid};
-ghost use Rattle.outcomes.specs.Outcomes.{Changed};
-ghost use Rattle.outcomes.specs.Changes.{storing, grant_on, remove_on, confirm_on};
+ghost use Rattle.book.specs.Confirmations.{confirmed};
+ghost use Rattle.book.specs.Grants.{granted};
+ghost use Rattle.book.specs.Removals.{removed};
+ghost use Rattle.outcomes.specs.Outcomes.{outcome_of};
+ghost use Rattle.outcomes.specs.Changes.{confirm_on, grant_on, remove_on, storing};
 
-use super::values::{put, put_stored, refused};
-use book::confirmations::ConfirmAnswer;
-use book::grants::GrantAnswer;
-use book::removals::RemoveAnswer;
-use book::{Book, confirm, grant, remove};
-use stored::StoreAnswer;
-use stored::stores::store;
+use super::values::alone;
+use book::{Book, Line};
+use ring::Refusal;
+use stored::store;
 
-// Stores a book that was opened, or in which an order was removed or confirmed. Value: the length.
-pub fn keep(book: Book, buffer: &mut [u8], values: &mut [u16]) -> u16
-    ensures { Changed (storing [] book buffer.old) buffer.new values.old values.new result }
+// Stores a book that was opened.
+#[tactic(auto, using(crate::proofs::OutcomeLaws::refusal_number, crate::proofs::OutcomeLaws::store_kept))]
+pub fn keep(book: &Book, buffer: &mut [u8]) -> Result<[u16; 1], Refusal>
+    ensures { outcome_of result buffer.new ≡ storing [] book.now buffer.old }
 {
-    let answer = store(book, buffer);
-    put_stored(answer, values)
-}
-
-// Stores a book with a new circuit. Values: its serial, the length.
-fn keep_granted(book: Book, serial: u16, buffer: &mut [u8], values: &mut [u16]) -> u16
-    ensures { Changed (storing (serial ∷ []) book buffer.old) buffer.new values.old
-        values.new result }
-{
-    let answer = store(book, buffer);
-    match answer {
-        StoreAnswer::Stored(length) => {
-            put(values, 0, serial);
-            put(values, 1, length);
-            0
-        }
-        StoreAnswer::Refused(refusal) => refused(refusal, values),
-    }
+    alone(store(book, buffer))
 }
 
 // Grants a circuit in a book, and stores it.
-pub fn grant_in(
-    book: Book,
-    x: u16,
-    y: u16,
-    way: u16,
-    colour: u16,
-    crew: u16,
-    buffer: &mut [u8],
-    values: &mut [u16],
-) -> u16
-    requires { Valid book }
-    ensures { Changed (grant_on book x y way colour crew buffer.old) buffer.new values.old
-        values.new result }
+#[tactic(auto, using(crate::proofs::OutcomeLaws::refusal_number, crate::proofs::OutcomeLaws::store_kept))]
+pub fn grant_in(book: &mut Book, line: Line, buffer: &mut [u8]) -> Result<[u16; 2], Refusal>
+    requires { Valid book.old }
+    ensures outcome { outcome_of result buffer.new ≡ grant_on book.old line.x line.y line.way line.colour line.crew buffer.old }
+    ensures book { book.new ≡ (granted book.old line.x line.y line.way line.colour line.crew).book }
 {
-    let granted = grant(book, x, y, way, colour, crew);
-    let answer = granted.answer;
-    match answer {
-        GrantAnswer::Granted(serial) => {
-            let changed = granted.book;
-            keep_granted(changed, serial, buffer, values)
-        }
-        GrantAnswer::Refused(refusal) => refused(refusal, values),
-    }
+    let serial = book.grant(line)?;
+    let length = store(book, buffer)?;
+    Ok([serial, length])
 }
 
 // Removes an order from a book, whose record is pending then, and stores it.
-pub fn remove_in(book: Book, serial: u16, buffer: &mut [u8], values: &mut [u16]) -> u16
-    ensures { Changed (remove_on book serial buffer.old) buffer.new values.old
-        values.new result }
+#[tactic(auto, using(crate::proofs::OutcomeLaws::refusal_number))]
+pub fn remove_in(book: &mut Book, serial: u16, buffer: &mut [u8]) -> Result<[u16; 1], Refusal>
+    ensures outcome { outcome_of result buffer.new ≡ remove_on book.old serial buffer.old }
+    ensures book { book.new ≡ (removed book.old serial).book }
 {
-    let removed = remove(book, serial);
-    let answer = removed.answer;
-    match answer {
-        RemoveAnswer::Removed => {
-            let changed = removed.book;
-            keep(changed, buffer, values)
-        }
-        RemoveAnswer::Refused(refusal) => refused(refusal, values),
-    }
+    book.remove(serial)?;
+    keep(book, buffer)
 }
 
 // Confirms the pull of a removed order in a book, and stores it.
-pub fn confirm_in(book: Book, serial: u16, buffer: &mut [u8], values: &mut [u16]) -> u16
-    ensures { Changed (confirm_on book serial buffer.old) buffer.new values.old
-        values.new result }
+#[tactic(auto, using(crate::proofs::OutcomeLaws::refusal_number))]
+pub fn confirm_in(book: &mut Book, serial: u16, buffer: &mut [u8]) -> Result<[u16; 1], Refusal>
+    ensures outcome { outcome_of result buffer.new ≡ confirm_on book.old serial buffer.old }
+    ensures book { book.new ≡ (confirmed book.old serial).book }
 {
-    let confirmed = confirm(book, serial);
-    let answer = confirmed.answer;
-    match answer {
-        ConfirmAnswer::Confirmed => {
-            let freed = confirmed.book;
-            keep(freed, buffer, values)
-        }
-        ConfirmAnswer::Refused(refusal) => refused(refusal, values),
-    }
+    book.confirm(serial)?;
+    keep(book, buffer)
 }

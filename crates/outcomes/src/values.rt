@@ -1,37 +1,31 @@
 // Answers as numbers.
-ghost use Rattle.std.specs.Prelude.{◌≡◌, set};
+ghost use Rattle.std.specs.Prelude.{Err, MatchResult, Ok, [], ◌≡◌, ◌∷◌};
 ghost use Rattle.ring.specs.Answers.{carried_values, refuses};
-ghost use Rattle.planner.specs.declared.answers.PlanAnswer.TheVariants.{Planned};
 ghost use Rattle.planner.specs.Plan.{part_number, plan_in_numbers};
-ghost use Rattle.stored.specs.Storing.{store_in_numbers};
-ghost use Rattle.outcomes.specs.Outcomes.{put_from, Answered};
+ghost use Rattle.outcomes.specs.Outcomes.{Answered, in_numbers, put_from};
 ghost use Rattle.outcomes.specs.Entries.{halves};
 
 use planner::{Part, Summary};
 use ring::Refusal;
-use ring::refusals::{Carried, carried_by, number};
-use stored::StoreAnswer;
+use ring::refusals::Carried;
 
-// Stores a value, if there is an entry for it.
-pub fn put(values: &mut [u16], at: usize, value: u16)
-    ensures { values.new ≡ set values.old at value }
+// Puts values into the lent ones, from the first on: of a slice that is too short, as many as fit.
+#[tactic(auto, using(crate::proofs::OutcomeLaws::put_front))]
+pub fn put(values: &mut [u16], given: &[u16])
+    ensures { values.new ≡ put_from 0 given.now values.old }
 {
-    if at < values.len() {
-        values[at] = value;
-    }
+    let count = given.len().min(values.len());
+    values[..count].copy_from_slice(&given[..count]);
 }
 
-// Stores what a refusal carries.
+// Puts what a refusal carries.
 fn put_carried(values: &mut [u16], carried: Carried)
     ensures { values.new ≡ put_from 0 (carried_values carried) values.old }
 {
     match carried {
         Carried::None => {}
-        Carried::One(first) => put(values, 0, first),
-        Carried::Two(first, second) => {
-            put(values, 0, first);
-            put(values, 1, second);
-        }
+        Carried::One(first) => put(values, &[first]),
+        Carried::Two(first, second) => put(values, &[first, second]),
     }
 }
 
@@ -39,20 +33,20 @@ fn put_carried(values: &mut [u16], carried: Carried)
 pub fn refused(refusal: Refusal, values: &mut [u16]) -> u16
     ensures { Answered (refuses refusal) values.old values.new result }
 {
-    put_carried(values, carried_by(refusal));
-    number(refusal)
+    put_carried(values, refusal.carried());
+    refusal.number()
 }
 
-// What came of storing a book. Value: the length of the stored form.
-pub fn put_stored(answer: StoreAnswer, values: &mut [u16]) -> u16
-    ensures { Answered (store_in_numbers answer) values.old values.new result }
+// The result of a call: 0 where it succeeds, which gives these values, or else that of its refusal.
+pub fn answered<const N: usize>(answer: Result<[u16; N], Refusal>, values: &mut [u16]) -> u16
+    ensures { Answered (in_numbers answer.entry) values.old values.new result }
 {
     match answer {
-        StoreAnswer::Stored(length) => {
-            put(values, 0, length);
+        Ok(given) => {
+            put(values, &given);
             0
         }
-        StoreAnswer::Refused(refusal) => refused(refusal, values),
+        Err(refusal) => refused(refusal, values),
     }
 }
 
@@ -67,21 +61,28 @@ pub fn part_number(part: Part) -> u16
 }
 
 // The counts, the part and the ceiling of a plan.
-pub fn put_summary(values: &mut [u16], summary: Summary)
-    ensures { values.new ≡ put_from 0 (plan_in_numbers (Planned summary)).values values.old }
+pub fn summary_values(summary: Summary) -> [u16; 5]
+    ensures { result ≡ (plan_in_numbers (Ok summary)).values }
 {
-    let used = summary.used;
-    put(values, 0, summary.chain);
-    put(values, 1, summary.matched);
-    put(values, 2, summary.paired);
-    put(values, 3, part_number(used));
-    put(values, 4, summary.ceiling);
+    [
+        summary.chain,
+        summary.matched,
+        summary.paired,
+        part_number(summary.used),
+        summary.ceiling,
+    ]
 }
 
 // A number of 32 bits: its low half, then its high one.
-pub fn put_halves(values: &mut [u16], number: u32)
-    ensures { values.new ≡ put_from 0 (halves number) values.old }
+pub fn halves(number: u32) -> [u16; 2]
+    ensures { result ≡ halves number }
 {
-    put(values, 0, (number % 65536) as u16);
-    put(values, 1, (number / 65536) as u16);
+    [(number % 65536) as u16, (number / 65536) as u16]
+}
+
+// A value that a success gives alone.
+pub fn alone(answer: Result<u16, Refusal>) -> Result<[u16; 1], Refusal>
+    ensures { MatchResult answer (λ value. result ≡ Ok (value ∷ [])) (λ refusal. result ≡ Err refusal) }
+{
+    Ok([answer?])
 }

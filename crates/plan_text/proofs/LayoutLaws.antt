@@ -1,4 +1,4 @@
--- The lengths of printed lines.
+-- The lengths of printed lines, and the room that they leave.
 use Prim.Native.Nat.{ℕ, suc, ◌+◌, ◌≤◌, ◌<◌}
 use mathlib.Core.Path.{◌≡◌, refl, ◌∙◌, ap}
 use mathlib.Core.List.{List, [], ◌∷◌, ◌++◌, append_assoc, append-nil}
@@ -15,21 +15,12 @@ use Rattle.planner.specs.declared.answers.Part.TheVariants as part
 use Rattle.planner.specs.declared.answers.Summary.{Summary}
 use Rattle.ring.proofs.FateLaws.{fates_length}
 use Rattle.texts.specs.Bytes.{bytes}
-use Rattle.texts.specs.Layout.{labelled}
+use Rattle.texts.specs.declared.writing.Writer.{Writer}
 use Rattle.texts.specs.Internal.Writing.{Wrote}
 use Rattle.texts.proofs.DecimalLaws.{decimal_short}
 use Rattle.texts.proofs.WritingLaws.{wrote_then}
-use Rattle.texts.proofs.WordLaws.{labelled_short, way_short, room_left}
+use Rattle.texts.proofs.WordLaws.{labelled_short, way_short}
 use Rattle.plan_text.specs.Layout.{plan_line, part_word, counts_line, fate_ending, fate_line, fate_lines}
-
--- so much room is left behind what was written
-abbrev pub Leaves : {out mid bytes : List ℕ} {at next : ℕ} → ℕ → Wrote out at bytes mid next → Type 0
-Leaves {mid = mid} {next = next} rest s = next + rest ≤ length mid
-
--- behind a number that follows a word of at most 9 bytes
-pub labelled_room : {out mid : List ℕ} {at next : ℕ} (word : List ℕ) (n rest : ℕ) (s : Wrote out at (labelled word n) mid next)
-    → length word ≤ 9 → at + (14 + rest) ≤ length out → Leaves rest s
-labelled_room word n rest s short room = room_left 14 rest s (omega (arith, labelled_short word n)) room
 
 -- the line of a request, of a plan and of its counts
 pub fate_short : (fate : Fate) → length (fate_ending fate) ≤ 9
@@ -87,8 +78,8 @@ lines_next table i h =
     ∙ ap (λ (j : ℕ). fate_lines 0 (fates_of (take i table)) ++ fate_line j (fate_of (get_or table i 0))) size)
 
 -- a turn of the loop over the requests
-pub wrote_line : (table : List ℕ) (i : ℕ) {out mid end : List ℕ} {at p q : ℕ} {fate : Fate} → i < length table
+pub wrote_line : (table : List ℕ) (i : ℕ) {before mid after : Writer} {fate : Fate} → i < length table
     → fate ≡ fate_of (get_or table i 0)
-    → Wrote out at (fate_lines 0 (fates_of (take i table))) mid p → Wrote mid p (fate_line i fate) end q
-    → Wrote out at (fate_lines 0 (fates_of (take (i + 1) table))) end q
-wrote_line table i {out} {mid} {end} {at} {p} {q} {fate} h e s t = rw (lines_next table i h, ← e) (wrote_then s t)
+    → Wrote before (fate_lines 0 (fates_of (take i table))) mid → Wrote mid (fate_line i fate) after
+    → Wrote before (fate_lines 0 (fates_of (take (i + 1) table))) after
+wrote_line table i {before} {mid} {after} {fate} h e s t = rw (lines_next table i h, ← e) (wrote_then s t)

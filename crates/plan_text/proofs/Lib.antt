@@ -1,5 +1,4 @@
 -- The laws of the definitions in specs/ that proofs cite.
-pub mod HeadingLaws
 pub mod LineLaws
 pub mod LayoutLaws
 pub mod AnswerLaws

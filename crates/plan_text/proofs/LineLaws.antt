@@ -1,21 +1,14 @@
--- The lines of a text, and the whole text.
+-- The lines of a text, read into a buffer.
 use Prim.Native.Nat.{ℕ, zero, suc, ◌+◌, ◌*◌, ◌-◌, ◌≤◌, ◌<◌}
-use mathlib.Core.Path.{◌≡◌, refl, sym, ◌∙◌, ap}
+use mathlib.Core.Path.{◌≡◌, refl, sym, ◌∙◌}
 use mathlib.Core.List.{List, [], ◌∷◌, ◌++◌, append_assoc}
 use native.Mathlib.Omega.{arith}
 use native.Mathlib.Numerals.{add-one, unary_clauses}
-use lib.ListN.{length, take, drop, set, length-set, drop_of_length-le}
+use lib.ListN.{length, take, set, length-set}
 use lib.Seq.{take-suc-set}
-use borrow.Author.Tests.{lt-ltb, le-ltb}
-use Rattle.texts.specs.Fields.{line, broken, two, on_line}
-use Rattle.plan_text.specs.Reading.{lines_from, unfit, all, form_of, reading_of}
-use Rattle.plan_text.specs.Internal.Positions.{lines_in, HeadingRead, LinesRead, ReadingRead}
-use Rattle.plan_text.specs.declared.reading.LinesAt.{LinesAt}
-use Rattle.plan_text.specs.declared.reading.LinesAt.TheVariants as linesAt
-use Rattle.plan_text.specs.declared.reading.HeadingAt.{HeadingAt}
-use Rattle.plan_text.specs.declared.reading.HeadingAt.TheVariants as headingAt
-use Rattle.plan_text.specs.declared.reading.ReadingAt.TheVariants as readingAt
-use Rattle.ring.proofs.ListLaws.{drop_next}
+use Rattle.texts.specs.Fields.{Field, missing, found, on_field, field, space, line_feed, line, two, on_line}
+use Rattle.texts.proofs.FieldLaws.{field_shorter}
+use Rattle.plan_text.specs.Reading.{lines_from, unfit, none, numbers, heading}
 
 -- two numbers more in a buffer
 pub take_two : (l : List ℕ) (i x y : ℕ) → i + 1 < length l → take (i + 2) (set (set l i x) (i + 1) y) ≡ take i l ++ (x ∷ y ∷ [])
@@ -31,70 +24,41 @@ lines_suc : (sofar : List ℕ) (left : ℕ) (text : List ℕ) → 0 < left
 lines_suc sofar zero text h = absurd (omega arith)
 lines_suc sofar (suc left) text h = simp unary_clauses refl
 
-pub lines_turn : (buffer text : List ℕ) (count left at x y next : ℕ) → 0 < left → count + 1 < length buffer
-    → line (drop at text) ≡ two x y (drop next text)
-    → lines_from (take (count + 2) (set (set buffer count x) (count + 1) y)) (left - 1) (drop next text)
-    ≡ lines_from (take count buffer) left (drop at text)
-lines_turn buffer text count left at x y next h l e =
-    rw (take_two buffer count x y l) (sym (lines_suc (take count buffer) left (drop at text) h ∙ rw e refl))
+pub lines_turn : (buffer text : List ℕ) (i m : ℕ) {x y : ℕ} {rest : List ℕ} → i < m → 2 * i + 1 < length buffer → two x y rest ≡ line text
+    → lines_from (take (2 * (i + 1)) (set (set buffer (2 * i) x) (2 * i + 1) y)) (m - (i + 1)) rest
+    ≡ lines_from (take (2 * i) buffer) (m - i) text
+lines_turn buffer text i m {x} {y} {rest} h l e =
+    let count : 2 * (i + 1) ≡ 2 * i + 2 = omega arith in
+    let left : m - (i + 1) ≡ m - i - 1 = omega arith in
+    rw (count, left, take_two buffer (2 * i) x y l) (sym (lines_suc (take (2 * i) buffer) (m - i) text (omega arith) ∙ rw (← e) refl))
 
--- a line that is none
-pub lines_broken : (sofar text : List ℕ) (left at : ℕ) → 0 < left → line (drop at text) ≡ broken
-    → unfit ≡ lines_from sofar left (drop at text)
-lines_broken sofar text left at h e = sym (lines_suc sofar left (drop at text) h ∙ rw e refl)
+-- the first line leaves no more than the text
+pub heading_shorter : (text : List ℕ) {n w m : ℕ} {lines : List ℕ} → numbers n w m lines ≡ heading text → length lines ≤ length text
+unfolding heading
+heading_shorter text {n} {w} {m} {lines} e = first (field space text) refl (sym e)
+  where
+    third : (a b : ℕ) (rest : List ℕ) → length rest ≤ length text → (f : Field) → field line_feed rest ≡ f
+        → on_field f none (λ c last. numbers a b c last) ≡ numbers n w m lines → length lines ≤ length text
+    third a b rest h missing q e = let z : ◌≡◌ {A = ℕ} 0 1 = cc in absurd (omega arith)
+    third a b rest h (found c last) q e =
+        let short = field_shorter line_feed rest (sym q) in
+        let same : last ≡ lines = cc in
+        rw (← same) (omega arith)
 
--- no line is left
-pub lines_ended : (sofar text : List ℕ) (left : ℕ) → left ≤ 0 → all sofar text ≡ lines_from sofar left text
-lines_ended sofar text zero z = refl
-lines_ended sofar text (suc left) z = absurd (omega arith)
+    second : (a : ℕ) (behind : List ℕ) → length behind ≤ length text → (f : Field) → field space behind ≡ f
+        → on_field f none (λ b rest. on_field (field line_feed rest) none (λ c last. numbers a b c last)) ≡ numbers n w m lines
+        → length lines ≤ length text
+    second a behind h missing q e = let z : ◌≡◌ {A = ℕ} 0 1 = cc in absurd (omega arith)
+    second a behind h (found b rest) q e =
+        let short = field_shorter space behind (sym q) in
+        third a b rest (omega arith) (field line_feed rest) refl e
 
--- lines that were found, and such that were not, as the definition has them
-pub lines_are : {at m count next : ℕ} {text buffer : List ℕ} {r : LinesAt} → LinesRead text at m buffer r → r ≡ linesAt.All count next
-    → (lines_from [] m (drop at text) ≡ all (take count buffer) (drop next text)) × ((2 * count ≤ next) × (next ≤ length text))
-lines_are {at} {m} {count} {next} {text} {buffer} {r} s e = (sym s.same ∙ ap (lines_in text buffer) e, rw e at s.fits)
-
-pub lines_are_not : {at m : ℕ} {text buffer : List ℕ} {r : LinesAt} → LinesRead text at m buffer r → r ≡ linesAt.Unfit
-    → lines_from [] m (drop at text) ≡ unfit
-lines_are_not {at} {m} {text} {buffer} {r} s e = sym s.same ∙ ap (lines_in text buffer) e
-
--- the first line ends within the text
-pub heading_inside : {text : List ℕ} {n w m next : ℕ} {r : HeadingAt} → HeadingRead text r → r ≡ headingAt.Numbers n w m next
-    → next ≤ length text
-heading_inside s e = rw e at s.fits
-
--- the whole text, from its first line and its other lines
-pub read_long : (text buffer : List ℕ) → 8192 < length text → ReadingRead text buffer readingAt.Unreadable
-unfolding reading_of
-read_long text buffer h = record { same = rw (lt-ltb 8192 (length text) h) refl; fits = tt }
-
-module _ {text : List ℕ} (short : length text ≤ 8192) {r : HeadingAt} (first : HeadingRead text r) where
-  pub read_no_heading : {buffer : List ℕ} → r ≡ headingAt.Missing → ReadingRead text buffer readingAt.Unreadable
-  unfolding reading_of form_of
-  read_no_heading {buffer} e = record { same = rw (le-ltb 8192 (length text) short, ← first.same, e) refl; fits = tt }
-
-  module _ {n w m next : ℕ} (e : r ≡ headingAt.Numbers n w m next) {buffer : List ℕ} {t : LinesAt}
-      (lines : LinesRead text next m buffer t) where
-    pub read_no_lines : t ≡ linesAt.Unfit → ReadingRead text buffer readingAt.Unreadable
-    unfolding reading_of form_of
-    read_no_lines q = record { same = rw (le-ltb 8192 (length text) short, ← first.same, e, lines_are_not lines q) refl; fits = tt }
-
-    pub read_followed : {count behind : ℕ} → t ≡ linesAt.All count behind → behind < length text
-        → ReadingRead text buffer readingAt.Unreadable
-    unfolding reading_of form_of
-    read_followed {count} {behind} q h =
-        record {
-          same = rw (le-ltb 8192 (length text) short, ← first.same, e, (lines_are lines q).0, drop_next text behind 0 h) refl;
-          fits =
-              tt;
-        }
-
-    pub read_whole : {count behind : ℕ} → t ≡ linesAt.All count behind → length text ≤ behind
-        → ReadingRead text buffer (readingAt.Readable n w count)
-    unfolding reading_of form_of
-    read_whole {count} {behind} q h =
-        let fits = (lines_are lines q).1 in
-        record {
-          same = rw (le-ltb 8192 (length text) short, ← first.same, e, (lines_are lines q).0, drop_of_length-le text h) refl;
-          fits =
-              omega arith;
-        }
+    first : (f : Field) → field space text ≡ f
+        → on_field f none (λ a behind.
+        on_field (field space behind) none (λ b rest. on_field (field line_feed rest) none (λ c last. numbers a b c last)))
+        ≡ numbers n w m lines
+        → length lines ≤ length text
+    first missing q e = let z : ◌≡◌ {A = ℕ} 0 1 = cc in absurd (omega arith)
+    first (found a behind) q e =
+        let short = field_shorter space text (sym q) in
+        second a behind (omega arith) (field space behind) refl e

@@ -1,7 +1,8 @@
 -- The lines that the planning program prints, as bytes.
-use Rattle.std.specs.Prelude.{ℕ, ◌+◌, List, [], ◌∷◌, ◌++◌, take}
+use Rattle.std.specs.Prelude.{ℕ, ◌+◌, List, [], ◌∷◌, ◌++◌, take, Result, Ok, Err}
 use Rattle.ring.specs.declared.fates.Fate.{Fate}
 use Rattle.ring.specs.declared.fates.Fate.TheVariants.{Blocked, Served}
+use Rattle.ring.specs.declared.refusals.Refusal.{Refusal}
 use Rattle.ring.specs.Plans.{fates_of}
 use Rattle.ring.specs.Refusals.{number_of}
 use Rattle.texts.specs.Bytes.{bytes}
@@ -10,8 +11,6 @@ use Rattle.texts.specs.Layout.{labelled, way_ending}
 use Rattle.planner.specs.declared.answers.Part.{Part}
 use Rattle.planner.specs.declared.answers.Part.TheVariants as part
 use Rattle.planner.specs.declared.answers.Summary.{Summary}
-use Rattle.planner.specs.declared.answers.PlanAnswer.{PlanAnswer}
-use Rattle.planner.specs.declared.answers.PlanAnswer.TheVariants as answer
 
 -- "Line 1 repeats n, w and m.": `plan n w m`
 unfoldable pub plan_line : ℕ → ℕ → ℕ → List ℕ
@@ -54,6 +53,6 @@ unfoldable pub refused_line : ℕ → List ℕ
 refused_line number = labelled (bytes "refused ") number ++ bytes "\n"
 
 -- the whole output for an answer of plan: m requests, whose fates the first m entries of the table are
-unfoldable pub answer_text : ℕ → ℕ → ℕ → PlanAnswer → List ℕ → List ℕ
-answer_text n w m (answer.Planned counts) table = plan_text n w m counts (fates_of (take m table))
-answer_text n w m (answer.Refused refusal) table = refused_line (number_of refusal)
+unfoldable pub answer_text : ℕ → ℕ → ℕ → Result Summary Refusal → List ℕ → List ℕ
+answer_text n w m (Ok counts) table = plan_text n w m counts (fates_of (take m table))
+answer_text n w m (Err refusal) table = refused_line (number_of refusal)

@@ -1,6 +1,7 @@
 -- What the planning program's text function promises.
-use Rattle.std.specs.Prelude.{ℕ, ◌/◌, ◌≤◌, ◌<◌, ◌≡◌, List, ◌++◌, length, drop, replicate}
-use Rattle.planner.specs.declared.answers.PlanAnswer.{PlanAnswer}
+use Rattle.std.specs.Prelude.{ℕ, ◌/◌, ◌≤◌, ◌<◌, ◌≡◌, List, ◌++◌, length, drop, replicate, Result}
+use Rattle.ring.specs.declared.refusals.Refusal.{Refusal}
+use Rattle.planner.specs.declared.answers.Summary.{Summary}
 use Rattle.planner.specs.Promise.{PlanPromise}
 use Rattle.plan_text.specs.Reading.{numbers, heading, Reading, unreadable, readable, reading_of}
 use Rattle.plan_text.specs.Layout.{refused_line, answer_text}
@@ -8,7 +9,7 @@ use Rattle.plan_text.specs.Layout.{refused_line, answer_text}
 -- "Then as Plan": the output is the text of an answer of plan, with a table of 512 entries. Which maximum matching is found is open there
 pub record PlanOutput (n w : ℕ) (ends output : List ℕ) : Type 0 where
   pub table : List ℕ
-  pub result : PlanAnswer
+  pub result : Result Summary Refusal
   pub promise : PlanPromise n w ends (replicate 512 0) table result
   pub same : output ≡ answer_text n w (length ends / 2) result table
 

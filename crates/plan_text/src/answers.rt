@@ -1,23 +1,29 @@
 // The planning program's output for its input.
 ghost use Rattle.std.specs.Prelude.{◌≤◌, length};
-ghost use Rattle.plan_text.specs.Promise.{PlanOutput, Printed, AnswerPromise};
+ghost use Rattle.texts.specs.Internal.Writing.{Room};
+ghost use Rattle.plan_text.specs.Reading.{reading_of};
+ghost use Rattle.plan_text.specs.Promise.{OutputFor, AnswerPromise};
+ghost use Rattle.plan_text.specs.Internal.Printing.{WroteRight};
 
 use super::layout::{put_plan, put_refused};
-use super::reading::{ReadingAt, read};
-use planner::{PlanAnswer, plan};
+use super::reading::{Reading, read};
+use planner::plan;
 use ring::Refusal;
-use ring::refusals::number;
+use texts::writing::Writer;
 
-// The output of plan for n, w and the ends.
-fn put_answer(n: u16, w: u16, ends: &[u16], out: &mut [u8]) -> usize
-    requires { 8192 ≤ length out.old }
-    ensures { Printed (PlanOutput n w ends.now) out.old out.new result }
+// The output of plan for what the text says.
+fn put_answer(writer: &mut Writer<'_>, text: &[u8])
+    requires { Room 8192 writer.old }
+    ensures { WroteRight (OutputFor (reading_of text.now)) writer.old writer.new }
 {
+    let mut buffer = [0u16; 4096];
+    let Some(Reading { n, w, ends }) = read(text, &mut buffer) else {
+        return put_refused(writer, Refusal::TextForm.number());
+    };
     let mut table = [0u16; 512];
-    let answer = plan(n, w, ends, &mut table);
-    match answer {
-        PlanAnswer::Refused(ground) => put_refused(out, 0, number(ground)),
-        PlanAnswer::Planned(counts) => put_plan(out, n, w, ends.len() / 2, counts, &table),
+    match plan(n, w, ends, &mut table) {
+        Ok(counts) => put_plan(writer, n, w, counts, &table[..ends.len() / 2]),
+        Err(refusal) => put_refused(writer, refusal.number()),
     }
 }
 
@@ -28,10 +34,7 @@ pub fn answer(text: &[u8], out: &mut [u8]) -> usize
     if out.len() < 8192 {
         return 0;
     }
-    let mut ends = [0u16; 4096];
-    let reading = read(text, &mut ends);
-    let ReadingAt::Readable(n, w, count) = reading else {
-        return put_refused(out, 0, number(Refusal::TextForm));
-    };
-    put_answer(n, w, &ends[..count], out)
+    let mut writer = Writer::new(out);
+    put_answer(&mut writer, text);
+    writer.len()
 }

@@ -1,107 +1,103 @@
 // The lines that the planning program prints.
-ghost use Rattle.std.specs.Prelude.{◌+◌, ◌≤◌, length, take};
+ghost use Rattle.std.specs.Prelude.{◌*◌, ◌+◌, ◌≤◌, length};
 ghost use Rattle.ring.specs.Plans.{fates_of};
-ghost use Rattle.texts.specs.Internal.Writing.{Wrote};
+ghost use Rattle.texts.specs.Internal.Writing.{Room, Wrote};
 ghost use Rattle.plan_text.specs.Layout.{plan_line, part_word, counts_line, fate_ending, fate_line, fate_lines, plan_text, refused_line};
-ghost use Rattle.plan_text.specs.Internal.Fitting.{FatesFit, PlanFits};
 
 use planner::{Part, Summary};
 use ring::Fate;
-use ring::fates::fate_of;
-use texts::words::{put_labelled, put_way};
-use texts::writing::{put, put_byte, put_number};
+use texts::writing::Writer;
 
 // The line of n, w and m.
-fn put_plan_line(out: &mut [u8], at: usize, n: u16, w: u16, m: u16) -> usize
-    requires { at + 23 ≤ length out.old }
-    ensures { Wrote out.old at (plan_line n w m) out.new result }
+#[tactic(auto, using(texts::proofs::WordLaws::labelled_short))]
+fn put_plan_line(writer: &mut Writer<'_>, n: u16, w: u16, m: u16)
+    requires { Room 23 writer.old }
+    ensures { Wrote writer.old (plan_line n w m) writer.new }
 {
-    let nodes = put_labelled(out, at, b"plan ", n);
-    let colours = put_labelled(out, nodes, b" ", w);
-    let requests = put_labelled(out, colours, b" ", m);
-    put_byte(out, requests, b'\n')
+    writer.labelled(b"plan ", n);
+    writer.labelled(b" ", w);
+    writer.labelled(b" ", m);
+    writer.byte(b'\n');
 }
 
 // The part used.
-fn put_part(out: &mut [u8], at: usize, part: Part) -> usize
-    requires { at + 5 ≤ length out.old }
-    ensures { Wrote out.old at (part_word part) out.new result }
+fn put_part(writer: &mut Writer<'_>, part: Part)
+    requires { Room 5 writer.old }
+    ensures { Wrote writer.old (part_word part) writer.new }
 {
     match part {
-        Part::Chain => put(out, at, b"chain"),
-        Part::Pair => put(out, at, b"pair"),
+        Part::Chain => writer.bytes(b"chain"),
+        Part::Pair => writer.bytes(b"pair"),
     }
 }
 
 // The line of the counts, the part used and the ceiling.
-fn put_counts_line(out: &mut [u8], at: usize, counts: Summary) -> usize
-    requires { at + 68 ≤ length out.old }
-    ensures { Wrote out.old at (counts_line counts) out.new result }
+#[tactic(auto, using(texts::proofs::WordLaws::labelled_short))]
+fn put_counts_line(writer: &mut Writer<'_>, counts: Summary)
+    requires { Room 68 writer.old }
+    ensures { Wrote writer.old (counts_line counts) writer.new }
 {
-    let chain = put_labelled(out, at, b"chain ", counts.chain);
-    let matched = put_labelled(out, chain, b" match ", counts.matched);
-    let paired = put_labelled(out, matched, b" pair ", counts.paired);
-    let word = put(out, paired, b" used ");
-    let used = counts.used;
-    let part = put_part(out, word, used);
-    let ceiling = put_labelled(out, part, b" ceiling ", counts.ceiling);
-    put_byte(out, ceiling, b'\n')
+    writer.labelled(b"chain ", counts.chain);
+    writer.labelled(b" match ", counts.matched);
+    writer.labelled(b" pair ", counts.paired);
+    writer.bytes(b" used ");
+    put_part(writer, counts.used);
+    writer.labelled(b" ceiling ", counts.ceiling);
+    writer.byte(b'\n');
 }
 
 // What becomes of a request, at the end of its line.
-fn put_fate(out: &mut [u8], at: usize, fate: Fate) -> usize
-    requires { at + 9 ≤ length out.old }
-    ensures { Wrote out.old at (fate_ending fate) out.new result }
+#[tactic(auto, using(texts::proofs::WordLaws::way_short))]
+fn put_fate(writer: &mut Writer<'_>, fate: Fate)
+    requires { Room 9 writer.old }
+    ensures { Wrote writer.old (fate_ending fate) writer.new }
 {
     match fate {
-        Fate::Blocked => put(out, at, b" B\n"),
+        Fate::Blocked => writer.bytes(b" B\n"),
         Fate::Served(way, colour) => {
-            let next = put_way(out, at, way, colour);
-            put_byte(out, next, b'\n')
+            writer.way(way, colour);
+            writer.byte(b'\n');
         }
     }
 }
 
 // The line of a request.
-fn put_fate_line(out: &mut [u8], at: usize, i: u16, fate: Fate) -> usize
-    requires { at + 14 ≤ length out.old }
-    ensures { Wrote out.old at (fate_line i fate) out.new result }
+#[tactic(auto, using(texts::proofs::DecimalLaws::decimal_short))]
+fn put_fate_line(writer: &mut Writer<'_>, i: u16, fate: Fate)
+    requires { Room 14 writer.old }
+    ensures { Wrote writer.old (fate_line i fate) writer.new }
 {
-    let next = put_number(out, at, i);
-    put_fate(out, next, fate)
+    writer.number(i);
+    put_fate(writer, fate);
 }
 
-// The lines of the first m requests, whose fate numbers the table's entries are.
-fn put_fate_lines(out: &mut [u8], at: usize, table: &[u16], m: usize) -> usize
-    requires { FatesFit at m table.now out.old }
-    ensures { Wrote out.old at (fate_lines 0 (fates_of (take m table.now))) out.new result }
+// The lines of the requests, whose fate numbers the table's entries are.
+fn put_fate_lines(writer: &mut Writer<'_>, table: &[u16])
+    requires { (length table.now ≤ 512) × Room (14 * length table.now) writer.old }
+    ensures { Wrote writer.old (fate_lines 0 (fates_of table.now)) writer.new }
 {
-    let mut next = at;
-    let mut i: usize = 0;
-    while i < m {
-        let fate = fate_of(table[i]);
-        next = put_fate_line(out, next, i as u16, fate);
-        i += 1;
+    for (i, number) in table.iter().enumerate() {
+        put_fate_line(writer, i as u16, Fate::from(*number));
     }
-    next
 }
 
 // All lines of a plan.
-pub fn put_plan(out: &mut [u8], n: u16, w: u16, m: usize, counts: Summary, table: &[u16]) -> usize
-    requires { PlanFits m table.now out.old }
-    ensures { Wrote out.old 0 (plan_text n w m counts (fates_of (take m table.now)))
-        out.new result }
+#[tactic(auto, using(crate::proofs::LayoutLaws::plan_line_short, crate::proofs::LayoutLaws::counts_line_short))]
+pub fn put_plan(writer: &mut Writer<'_>, n: u16, w: u16, counts: Summary, table: &[u16])
+    requires { (length table.now ≤ 512) × Room 8192 writer.old }
+    ensures { Wrote writer.old (plan_text n w (length table.now) counts (fates_of table.now)) writer.new }
 {
-    let heading = put_plan_line(out, 0, n, w, m as u16);
-    let lines = put_counts_line(out, heading, counts);
-    put_fate_lines(out, lines, table, m)
+    put_plan_line(writer, n, w, table.len() as u16);
+    put_counts_line(writer, counts);
+    put_fate_lines(writer, table);
 }
 
 // The one line of a refusal.
-pub fn put_refused(out: &mut [u8], at: usize, number: u16) -> usize
-    requires { at + 14 ≤ length out.old }
-    ensures { Wrote out.old at (refused_line number) out.new result }
+#[tactic(auto, using(texts::proofs::WordLaws::labelled_short))]
+pub fn put_refused(writer: &mut Writer<'_>, number: u16)
+    requires { Room 14 writer.old }
+    ensures { Wrote writer.old (refused_line number) writer.new }
 {
-    let next = put_labelled(out, at, b"refused ", number);
-    put_byte(out, next, b'\n')
+    writer.labelled(b"refused ", number);
+    writer.byte(b'\n');
 }

@@ -1,89 +1,69 @@
 // The planning program's input: a line "n w m", then m lines of two ends.
-ghost use Rattle.std.specs.Prelude.{◌≤◌, length};
-ghost use Rattle.plan_text.specs.Internal.Positions.{HeadingRead, LinesFitIn, LinesRead, ReadingRead};
+ghost use Rattle.std.specs.Prelude.{◌≡◌, ◌≤◌, ◌+◌, ◌*◌, [], length, take, IfSome};
+ghost use Rattle.plan_text.specs.Reading.{heading, lines_from, reading_of};
+ghost use Rattle.plan_text.specs.Internal.Readings.{heading_read, lines_read, reading_read};
 
-use texts::fields::{FieldAt, LineAt, field, line};
+use texts::fields::Reader;
 
-// The first line, and the position behind it.
-#[derive(Clone, Copy)]
-pub enum HeadingAt {
-    Missing,
-    Numbers(u16, u16, u16, usize),
+// The numbers of the first line.
+#[derive(Clone, Copy, Debug, PartialEq, Eq)]
+pub struct Numbers {
+    pub n: u16,
+    pub w: u16,
+    pub m: u16,
 }
 
-// How many numbers the lines have, and the position behind them.
-#[derive(Clone, Copy)]
-pub enum LinesAt {
-    Unfit,
-    All(usize, usize),
-}
-
-// n, w and how many ends were read.
-#[derive(Clone, Copy)]
-pub enum ReadingAt {
-    Unreadable,
-    Readable(u16, u16, usize),
+// What a text says: n, w and the ends.
+#[derive(Clone, Copy, Debug)]
+pub struct Reading<'a> {
+    pub n: u16,
+    pub w: u16,
+    pub ends: &'a [u16],
 }
 
 // The first line.
-pub fn heading(text: &[u8]) -> HeadingAt
-    ensures { HeadingRead text.now result }
+#[tactic(auto, unfolding(crate::specs::Reading::heading))]
+pub fn heading(reader: &mut Reader<'_>) -> Option<Numbers>
+    ensures { heading_read result reader.new ≡ heading reader.old }
 {
-    let first = field(text, 0, b' ');
-    let FieldAt::Found(n, behind) = first else {
-        return HeadingAt::Missing;
-    };
-    let second = field(text, behind, b' ');
-    let FieldAt::Found(w, rest) = second else {
-        return HeadingAt::Missing;
-    };
-    let third = field(text, rest, b'\n');
-    let FieldAt::Found(m, next) = third else {
-        return HeadingAt::Missing;
-    };
-    HeadingAt::Numbers(n, w, m, next)
+    let n = reader.field(b' ')?;
+    let w = reader.field(b' ')?;
+    let m = reader.field(b'\n')?;
+    Some(Numbers { n, w, m })
 }
 
-// m lines of two ends from a position on: the ends go into the buffer.
-pub fn request_lines(text: &[u8], at: usize, m: u16, buffer: &mut [u16]) -> LinesAt
-    requires { LinesFitIn text.now at buffer.old }
-    ensures { LinesRead text.now at m buffer.new result }
+// m lines of two ends: the ends go into the buffer.
+pub fn request_lines(reader: &mut Reader<'_>, m: u16, buffer: &mut [u16]) -> Option<()>
+    requires { length reader.old ≤ 2 * length buffer.old }
+    ensures same { lines_read result (take (2 * m) buffer.new) reader.new ≡ lines_from [] m reader.old }
+    ensures fits { IfSome result (λ _. 4 * m + length reader.new ≤ length reader.old) }
 {
-    let mut left = m;
-    let mut next = at;
-    let mut count: usize = 0;
-    while 0 < left {
-        let found = line(text, next);
-        let LineAt::Ends(x, y, behind) = found else {
-            return LinesAt::Unfit;
-        };
-        buffer[count] = x;
-        buffer[count + 1] = y;
-        count += 2;
-        next = behind;
-        left -= 1;
+    for i in 0..usize::from(m) {
+        let (x, y) = reader.line()?;
+        buffer[2 * i] = x;
+        buffer[2 * i + 1] = y;
     }
-    LinesAt::All(count, next)
+    Some(())
 }
 
-// The whole text: n and w, with the ends in the buffer.
-pub fn read(text: &[u8], buffer: &mut [u16]) -> ReadingAt
+// The whole text, whose ends are kept in the buffer.
+#[tactic(auto, unfolding(crate::specs::Reading::reading_of, crate::specs::Reading::form_of))]
+pub fn read<'a>(text: &[u8], buffer: &'a mut [u16]) -> Option<Reading<'a>>
     requires { 4096 ≤ length buffer.old }
-    ensures { ReadingRead text.now buffer.new result }
+    ensures { reading_read result ≡ reading_of text.now }
 {
     if 8192 < text.len() {
-        return ReadingAt::Unreadable;
+        return None;
     }
-    let first = heading(text);
-    let HeadingAt::Numbers(n, w, m, next) = first else {
-        return ReadingAt::Unreadable;
-    };
-    let lines = request_lines(text, next, m, buffer);
-    let LinesAt::All(count, behind) = lines else {
-        return ReadingAt::Unreadable;
-    };
-    if behind < text.len() {
-        return ReadingAt::Unreadable;
+    let mut reader = Reader::new(text);
+    let Numbers { n, w, m } = heading(&mut reader)?;
+    request_lines(&mut reader, m, buffer)?;
+    if !reader.is_at_end() {
+        return None;
     }
-    ReadingAt::Readable(n, w, count)
+    Some(Reading {
+        n,
+        w,
+        ends: &buffer[..2 * usize::from(m)],
+    })
 }

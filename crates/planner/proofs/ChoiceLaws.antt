@@ -9,10 +9,9 @@ use lib.Seq.{take_at, drop_at, length_front, length-take-le}
 use lib.Dec.{ltb}
 use borrow.Author.Tests.{ltb-true, ltb-false}
 use Rattle.ring.specs.declared.rings.Ring.{Ring}
-use Rattle.ring.specs.declared.rings.RingAnswer.TheVariants as ring
+use Rattle.std.specs.Prelude.{Ok, Err}
 use Rattle.ring.specs.declared.refusals.Refusal.{Refusal}
-use Rattle.ring.specs.declared.refusals.Verdict.{Verdict}
-use Rattle.ring.specs.declared.refusals.Verdict.TheVariants.{Allowed, Refused}
+use Rattle.ring.specs.Refusals.{Verdict}
 use Rattle.ring.specs.declared.requests.Request.{Request}
 use Rattle.ring.specs.Requests.{requests_of, ValidRequests}
 use Rattle.ring.specs.Fates.{fate_number}
@@ -29,11 +28,10 @@ use Rattle.matching.specs.declared.matchings.Matching.{Matching}
 use Rattle.matching.specs.Maximum.{pairs_of, MaximumMatching}
 use Rattle.planner.specs.declared.answers.Part.{Part}
 use Rattle.planner.specs.declared.answers.Summary.{Summary}
-use Rattle.planner.specs.declared.answers.PlanAnswer.TheVariants as answer
 use Rattle.planner.specs.PairPart.{ByLower, pair_fates, coloured_pairs, pair_part, pair_count}
 use Rattle.planner.specs.Plan.{better, part_used, plan_of, ceiling_of, summary}
 use Rattle.planner.specs.Promise.{PlanPromise}
-use Rattle.planner.specs.Internal.Writing.{pair_table}
+use Rattle.planner.specs.Internal.Writing.{Within, pair_table}
 use Rattle.planner.specs.Internal.Filling.{filled_table}
 use Rattle.planner.specs.Internal.Choosing.{Choosable, Chosen}
 use Rattle.planner.proofs.MateLaws.{matching_size}
@@ -47,7 +45,8 @@ pub counted : (m w pairs requests filled : ℕ) → requests ≡ m → filled �
     → 2 * pairs + filled ≡ pair_count m w pairs
 counted m w pairs requests filled e f = cc
 
-module _ {n w : ℕ} {ends mates table : List ℕ} {chain size : ℕ} (choosable : Choosable n w ends mates table chain size) where
+module _ {n w : ℕ} {ends mates table : List ℕ} {chain size : ℕ} (within : Within n w ends)
+    (choosable : Choosable n w ends mates table chain size) where
   abbrev R : List Request
   R = requests_of ends
 
@@ -55,27 +54,27 @@ module _ {n w : ℕ} {ends mates table : List ℕ} {chain size : ℕ} (choosable
   P = pairs_of (length R) mates
 
   half : length ends / 2 ≡ length R
-  half = omega (arith, choosable.writable.even)
+  half = omega (arith, within.even)
 
   -- there are two requests for each pair, and so few that every count fits
   pub few_pairs : (2 * size ≤ length ends / 2) × (length ends / 2 ≤ 512)
   few_pairs =
       let same = half in (
         omega (arith, choosable.matched, matching_size R P choosable.writable.matching),
-        omega (arith, choosable.writable.valid.few),
+        omega (arith, within.valid.few),
       )
 
   -- the chain count and w together fit
   pub few_served : chain + w < 65536
   few_served =
-      let valid = choosable.writable.valid in
+      let valid = within.valid in
       omega (
         arith,
         choosable.chain,
         served_le (chain_part n w R),
         (chain_is_optimal n w R valid).feasible.each,
         valid.few,
-        choosable.writable.colours,
+        within.colours,
       )
 
   pair_count_lem : (pairs paired : ℕ) → pairs ≡ min size w → paired ≡ pair_count (length ends / 2) w pairs → paired ≡ served (pair_part n w R P)
@@ -151,9 +150,6 @@ choosable_if n w ends before middle chain found limits coloured maximum =
     let valid = limits.list.valid in
     record {
       writable = record {
-        colours = limits.ring.colours_to;
-        even = limits.list.even;
-        valid = valid;
         room = omega (arith, limits.table, coloured_length n w (requests_of ends) valid before middle chain coloured limits.table);
         matching = maximum.maximum.matching;
       };
@@ -162,8 +158,13 @@ choosable_if n w ends before middle chain found limits coloured maximum =
       matched = maximum.size;
     }
 
+-- what a call that is not turned down has
+pub call_within : (n w : ℕ) (ends : List ℕ) (entries : ℕ) → CallLimits n w ends entries → Within n w ends
+call_within n w ends entries limits =
+    record { colours = limits.ring.colours_to; even = limits.list.even; valid = limits.list.valid }
+
 -- a call that is not turned down is within the limits
-pub made_fits : (n w : ℕ) (ends : List ℕ) (entries : ℕ) (r : Ring) → call_answer n w ends entries ≡ ring.Made r
+pub made_fits : (n w : ℕ) (ends : List ℕ) (entries : ℕ) (r : Ring) → call_answer n w ends entries ≡ Ok r
     → CallLimits r.nodes r.colours ends entries
 unfolding call_answer
 made_fits n w ends entries r e =
@@ -178,8 +179,8 @@ colourable_if n w ends table limits =
 -- The promise of plan.
 
 -- a ground is there
-pub plan_refused : (n w : ℕ) (ends table : List ℕ) (ground : Refusal) → call_answer n w ends (length table) ≡ ring.Refused ground
-    → PlanPromise n w ends table table (answer.Refused ground)
+pub plan_refused : (n w : ℕ) (ends table : List ℕ) (ground : Refusal) → call_answer n w ends (length table) ≡ Err ground
+    → PlanPromise n w ends table table (Err ground)
 unfolding call_answer
 plan_refused n w ends table ground e =
     let there = refused_verdict (call_verdict n w ends (length table)) e in
@@ -188,15 +189,15 @@ plan_refused n w ends table ground e =
       planned = λ f. impossible (cc);
     }
   where
-    refused_verdict : (v : Verdict) → ring_unless v n w ≡ ring.Refused ground → v ≡ Refused ground
-    refused_verdict Allowed q = impossible (cc)
-    refused_verdict (Refused r) q = cc
+    refused_verdict : (v : Verdict) → ring_unless v n w ≡ Err ground → v ≡ Err ground
+    refused_verdict (Ok tt) q = impossible (cc)
+    refused_verdict (Err r) q = cc
 
 -- none is there
-pub plan_made : (n w : ℕ) (ends before after : List ℕ) (r : Ring) → call_answer n w ends (length before) ≡ ring.Made r
+pub plan_made : (n w : ℕ) (ends before after : List ℕ) (r : Ring) → call_answer n w ends (length before) ≡ Ok r
     → (P : List Pair) → IsMaximum (requests_of ends) P → ByLower P → (counts : Summary)
     → Chosen r.nodes r.colours (requests_of ends) P before after counts
-    → PlanPromise n w ends before after (answer.Planned counts)
+    → PlanPromise n w ends before after (Ok counts)
 unfolding call_answer
 plan_made n w ends before after r e P maximum lower counts chosen =
     let made = made_allowed (call_verdict n w ends (length before)) n w r e in
@@ -210,7 +211,7 @@ plan_made n w ends before after r e P maximum lower counts chosen =
         pairs = P;
         maximum = maximum;
         by_lower = lower;
-        counts = ap answer.Planned ours.counts;
+        counts = ap Ok ours.counts;
         table = ours.table;
         demand = rw ours.table (demand n w R valid (chain_is_optimal n w R valid) P maximum (drop (length R) before));
       };

@@ -1,12 +1,13 @@
 -- The walk over a table gives the spare colours to the blocked requests.
 use Prim.Native.Nat.{ℕ, zero, suc, ◌+◌, ◌-◌, ◌≤◌, ◌<◌}
-use mathlib.Core.Path.{◌≡◌, refl, ap, ◌∙◌}
+use mathlib.Core.Path.{◌≡◌, refl}
 use mathlib.Core.Bool.{Bool, true, false, cond}
 use mathlib.Core.List.{List, [], ◌∷◌, ◌++◌, map, append-nil}
 use native.Mathlib.Omega.{arith}
 use native.Mathlib.Numerals.{add-one}
-use lib.ListN.{length, get_or, take, drop, set, length-set, drop_of_length-le}
-use lib.Seq.{append_snoc, take-suc-set, drop-set-lt, set-get_or, take_all}
+use lib.ListN.{length, get_or, take, drop, set, drop_of_length-le}
+use lib.Dec.{eqb}
+use lib.Seq.{append_snoc, take-suc-set, drop-set-lt, take_all}
 use borrow.Author.Tests.{lt-ltb, le-ltb, eq-eqb, ne_eqb}
 use Rattle.ring.specs.declared.requests.Request.{Request}
 use Rattle.ring.specs.declared.ways.Way.{Way}
@@ -16,48 +17,45 @@ use Rattle.ring.specs.declared.fates.Fate.TheVariants.{Blocked, Served}
 use Rattle.ring.specs.Fates.{fate_number}
 use Rattle.ring.specs.Plans.{fates_of}
 use Rattle.ring.specs.Matchings.{Pair}
+use Rattle.ring.proofs.Cases.{yes, no, is}
 use Rattle.ring.proofs.FateLaws.{served_number_lem, fates_of_numbers, numbers_of_fates}
 use Rattle.ring.proofs.ListLaws.{drop_next}
 use Rattle.planner.specs.PairPart.{pair_fates, coloured_pairs, lowest_blocked, filled_from, pair_part}
 use Rattle.planner.specs.Internal.Filling.{filled_table, takes_spare, number_after, spare_after, given_out}
 
--- request i: it is served already; there is no spare colour; or it takes one
-pub served_already : (w spare i : ℕ) (table : List ℕ) → (get_or table i 0 ≡ 0 → ⊥)
-    → (spare ≡ spare_after spare (get_or table i 0)) × (table ≡ set table i (number_after w spare (get_or table i 0)))
-served_already w spare i table h =
-    let e = ne_eqb (get_or table i 0) 0 h in
-    (cc, cc (set-get_or table i 0))
+-- a request is served already; or there is no spare colour; or it takes one
+pub served_already : (w spare x : ℕ) → (x ≡ 0 → ⊥) → (spare ≡ spare_after spare x) × (x ≡ number_after w spare x)
+served_already w spare x h =
+    let e = ne_eqb x 0 h in
+    (cc, cc)
 
-pub none_spare : (w spare i : ℕ) (table : List ℕ) → get_or table i 0 ≡ 0 → spare ≡ 0
-    → (spare ≡ spare_after spare (get_or table i 0)) × (table ≡ set table i (number_after w spare (get_or table i 0)))
-none_spare w spare i table h k =
-    let e = eq-eqb (get_or table i 0) 0 h in
-    let f = le-ltb 0 spare (omega arith) in
-    (cc, cc (set-get_or table i 0))
+pub none_spare : (w spare x : ℕ) → spare ≡ 0 → (spare ≡ spare_after spare x) × (x ≡ number_after w spare x)
+none_spare w spare x k = elim (is (eqb x 0)) [
+  | yes e ↦
+      let f = le-ltb 0 spare (omega arith) in
+      (cc, cc)
+  | no e ↦ (cc, cc)
+]
 
-pub spare_taken : (w spare i : ℕ) (table : List ℕ) (x : ℕ) → get_or table i 0 ≡ 0 → 0 < spare
-    → x ≡ fate_number (Served Plain (w - spare))
-    → (spare - 1 ≡ spare_after spare (get_or table i 0)) × (set table i x ≡ set table i (number_after w spare (get_or table i 0)))
-spare_taken w spare i table x h k g =
-    let e = eq-eqb (get_or table i 0) 0 h in
+pub spare_taken : (w spare x y : ℕ) → x ≡ 0 → 0 < spare → y ≡ fate_number (Served Plain (w - spare))
+    → (spare - 1 ≡ spare_after spare x) × (y ≡ number_after w spare x)
+spare_taken w spare x y h k g =
+    let e = eq-eqb x 0 h in
     let f = lt-ltb 0 spare k in
     (cc, cc)
 
 -- The walk: the entries before i are done.
 
-pub given_turn : (w spare i : ℕ) (table : List ℕ) (spare' : ℕ) (table' whole : List ℕ) → i < length table
-    → spare' ≡ spare_after spare (get_or table i 0) → table' ≡ set table i (number_after w spare (get_or table i 0))
+pub given_turn : (w spare i : ℕ) (table : List ℕ) (spare' y : ℕ) (whole : List ℕ) → i < length table
+    → spare' ≡ spare_after spare (get_or table i 0) → y ≡ number_after w spare (get_or table i 0)
     → take i table ++ given_out w spare (drop i table) ≡ whole
-    → (spare' ≤ spare) × (length table' ≡ length table) × (take (i + 1) table' ++ given_out w spare' (drop (i + 1) table') ≡ whole)
-given_turn w spare i table spare' table' whole h e f g =
+    → (spare' ≤ spare) × (take (i + 1) (set table i y) ++ given_out w spare' (drop (i + 1) (set table i y)) ≡ whole)
+given_turn w spare i table spare' y whole h e f g =
     let x = get_or table i 0 in
-    let y = number_after w spare x in
-    let front : take (i + 1) (set table i y) ≡ take i table ++ (y ∷ []) = rw add-one (take-suc-set table i y h) in
-    let back = drop-set-lt (i + 1) table i y (omega arith) in (
-      fewer (takes_spare spare x) e,
-      ap length f ∙ length-set table i y,
-      rw (f, e, front, back, append_snoc) (rw (drop_next table i 0 h) at g),
-    )
+    let z = number_after w spare x in
+    let front : take (i + 1) (set table i z) ≡ take i table ++ (z ∷ []) = rw add-one (take-suc-set table i z h) in
+    let back = drop-set-lt (i + 1) table i z (omega arith) in
+    (fewer (takes_spare spare x) e, rw (f, e, front, back, append_snoc) (rw (drop_next table i 0 h) at g))
   where
     fewer : (b : Bool) → spare' ≡ cond b (spare - 1) spare → spare' ≤ spare
     fewer true q = omega arith

@@ -1,13 +1,13 @@
 -- The walk over the mates writes the fates of the pairs.
 use Prim.Native.Nat.{ℕ, zero, suc, ◌+◌, ◌-◌, ◌/◌, ◌≤◌, ◌<◌}
 use mathlib.Core.Path.{◌≡◌, refl, sym, ap, ◌∙◌}
-use mathlib.Core.Bool.{Bool, true, false, cond}
+use mathlib.Core.Bool.{Bool, true, false}
 use mathlib.Core.List.{List, [], ◌∷◌, ◌++◌, map}
 use native.Mathlib.Omega.{arith}
 use lib.Dec.{ltb}
 use lib.ListN.{length, get_or, take, drop, set, replicate, length-append, length-take, length-drop, length-set, length-replicate}
-use lib.ListN.{drop_of_length-le, get_or-eq_default}
-use lib.Seq.{take-nil, get_or-take}
+use lib.ListN.{drop_of_length-le}
+use lib.Seq.{take-nil}
 use Rattle.ring.specs.declared.requests.Request.{Request}
 use Rattle.ring.specs.declared.ways.Way.{Way}
 use Rattle.ring.specs.declared.ways.Way.TheVariants.{Plain}
@@ -23,7 +23,7 @@ use Rattle.ring.proofs.ListLaws.{drop_next}
 use Rattle.ring.proofs.WayLaws.{sharing_means}
 use Rattle.matching.specs.Maximum.{lower_pair, pairs_from, pairs_of}
 use Rattle.planner.specs.PairPart.{first_fate, second_fate, paired_from, pair_fates}
-use Rattle.planner.specs.Internal.Writing.{other_way, with_pair, takes, table_after, colour_after, written_from, MateFits, Writable}
+use Rattle.planner.specs.Internal.Writing.{other_way, with_pair, table_after, colour_after, written_from, MateFits, Within, Writable}
 use Rattle.planner.specs.Internal.Writing.{pair_table}
 use Rattle.planner.proofs.PairLaws.{matching_take}
 
@@ -55,26 +55,15 @@ both_take n w R i j c table table' h k g =
     (cc, cc)
 
 -- a turn of the walk, and its end
-pub written_turn : (n w : ℕ) (R : List Request) (i c m : ℕ) (mates table : List ℕ) → i < m
-    → written_from n w R i c (drop i (take m mates)) table
-    ≡ written_from n w R (i + 1) (colour_after w i (get_or mates i 0) c) (drop (i + 1) (take m mates))
+pub written_turn : (n w : ℕ) (R : List Request) (i c : ℕ) (mates table : List ℕ) → i < length mates
+    → written_from n w R i c (drop i mates) table
+    ≡ written_from n w R (i + 1) (colour_after w i (get_or mates i 0) c) (drop (i + 1) mates)
     (table_after n w R i (get_or mates i 0) c table)
-written_turn n w R i c m mates table h = elim (compare i (length mates)) [
-  | less k e ↦
-      let inside : i < length (take m mates) = omega (arith, length-take m mates) in
-      rw (drop_next (take m mates) i 0 inside, get_or-take m mates i 0 h)
-  | not_less k e ↦
-      let outside : length (take m mates) ≤ i = omega (arith, length-take m mates) in
-      let next : length (take m mates) ≤ i + 1 = omega arith in
-      rw (drop_of_length-le (take m mates) outside, drop_of_length-le (take m mates) next, get_or-eq_default mates 0 k)
-      (not_lower n w R i 0 c table (omega arith)).1
-]
+written_turn n w R i c mates table h = rw (drop_next mates i 0 h) refl
 
-pub written_ended : (n w : ℕ) (R : List Request) (i c m : ℕ) (mates table : List ℕ) → m ≤ i
-    → written_from n w R i c (drop i (take m mates)) table ≡ table
-written_ended n w R i c m mates table h =
-    let outside : length (take m mates) ≤ i = omega (arith, length-take m mates) in
-    rw (drop_of_length-le (take m mates) outside)
+pub written_ended : (n w : ℕ) (R : List Request) (i c : ℕ) (mates table : List ℕ) → length mates ≤ i
+    → written_from n w R i c (drop i mates) table ≡ table
+written_ended n w R i c mates table h = rw (drop_of_length-le mates h)
 
 -- the table after the pairs have got the colours from c on
 abbrev table_from : ℕ → List Request → ℕ → List Pair → List ℕ → List ℕ
@@ -167,41 +156,26 @@ pairs_each Q i (j ∷ mates) h (suc k) l g = pairs_each Q (i + 1) mates (behind 
 
 -- so a mate above its request is a request
 pub mate_inside : (R : List Request) (mates : List ℕ) → IsMatching R (pairs_of (length R) mates)
-    → (i : ℕ) → i < length R → i < get_or mates i 0 → get_or mates i 0 < length R
+    → (i : ℕ) → i < length (take (length R) mates) → i < get_or (take (length R) mates) i 0 → get_or (take (length R) mates) i 0 < length R
 unfolding pairs_of
 mate_inside R mates matching i h g =
-    let same = get_or-take (length R) mates i 0 h in
-    rw same at (pairs_each (λ j. j < length R) 0 (take (length R) mates) (λ k l. (matching.numbers k l).1) i
-    (omega (arith, length-take (length R) mates, there)) (omega arith))
-  where
-    there : i < length mates
-    there = elim (compare i (length mates)) [
-      | less k e ↦ k
-      | not_less k e ↦ absurd (omega (arith, get_or-eq_default mates 0 k))
-    ]
+    pairs_each (λ j. j < length R) 0 (take (length R) mates) (λ k l. (matching.numbers k l).1) i h (omega arith)
 
 -- For the function: what a turn needs, what it leaves, and the end.
 
-module _ (n w : ℕ) (ends mates start : List ℕ) (writable : Writable n w ends mates start) where
+module _ (n w : ℕ) (ends mates start : List ℕ) (within : Within n w ends) (writable : Writable (requests_of ends) mates start) where
   half : length ends / 2 ≡ length (requests_of ends)
-  half = omega (arith, writable.even)
+  half = omega (arith, within.even)
 
-  pub mate_fits : (i j : ℕ) (table : List ℕ) → i < length ends / 2 → length table ≡ length start → j ≡ get_or mates i 0
-      → MateFits n w ends i j table
+  pub mate_fits : (i j : ℕ) (table : List ℕ) → i < length (take (length ends / 2) mates) → length table ≡ length start
+      → j ≡ get_or (take (length ends / 2) mates) i 0 → MateFits (length (requests_of ends)) i j table
   mate_fits i j table h e f =
-      let even = writable.even in
-      let room = writable.room in
-      let inside = half in
-      let second : i < j → j < length (requests_of ends) =
-      λ g. omega (arith, mate_inside (requests_of ends) mates writable.matching i (omega arith) (omega arith)) in
+      let inside : i < length (take (length (requests_of ends)) mates) = rw (← half) h in
+      let mate : j ≡ get_or (take (length (requests_of ends)) mates) i 0 = rw (← half) f in
       record {
-        first = omega arith;
-        second = λ g. omega (arith, second g);
-        ordered = omega (arith, writable.valid.ordered i (omega arith));
-        links = omega (arith, writable.valid.nodes i (omega arith));
-        room_first = omega arith;
-        room_second = λ g. omega (arith, second g);
-        colours = writable.colours;
+        first = omega (arith, length-take (length (requests_of ends)) mates);
+        second = λ g. omega (arith, mate_inside (requests_of ends) mates writable.matching i inside (omega arith));
+        room = omega (arith, writable.room);
       }
 
   pub cleared_length : (cleared : List ℕ) → cleared ≡ replicate (length ends / 2) 0 ++ drop (length ends / 2) start
@@ -219,16 +193,10 @@ module _ (n w : ℕ) (ends mates start : List ℕ) (writable : Writable n w ends
   pub cleared_written : (cleared : List ℕ) → cleared ≡ replicate (length ends / 2) 0 ++ drop (length ends / 2) start
       → written_from n w (requests_of ends) 0 0 (take (length ends / 2) mates) cleared ≡ pair_table n w (requests_of ends) mates start
   cleared_written cleared e =
-      rw (e, half) (written_pair_fates n (requests_of ends) writable.valid w mates (drop (length (requests_of ends)) start)
+      rw (e, half) (written_pair_fates n (requests_of ends) within.valid w mates (drop (length (requests_of ends)) start)
       writable.matching)
 
-pub written_again : (n w : ℕ) (R : List Request) (i c m : ℕ) (mates table : List ℕ) (j c' : ℕ) (table' whole : List ℕ)
-    → i < m → j ≡ get_or mates i 0 → c' ≡ colour_after w i j c → table' ≡ table_after n w R i j c table
-    → written_from n w R i c (drop i (take m mates)) table ≡ whole
-    → (length table' ≡ length table) × (written_from n w R (i + 1) c' (drop (i + 1) (take m mates)) table' ≡ whole)
-written_again n w R i c m mates table j c' table' whole h e f g k =
-    (ap length g ∙ same_size (takes w i j c), rw (f, g, e) (sym (written_turn n w R i c m mates table h) ∙ k))
-  where
-    same_size : (b : Bool) → length (cond b (with_pair n R i j c table) table) ≡ length table
-    same_size true = length-set (set table i _) j _ ∙ length-set table i _
-    same_size false = refl
+pub written_again : (n w : ℕ) (R : List Request) (i c : ℕ) (mates table : List ℕ) (j c' : ℕ) (table' whole : List ℕ)
+    → i < length mates → j ≡ get_or mates i 0 → c' ≡ colour_after w i j c → table' ≡ table_after n w R i j c table
+    → written_from n w R i c (drop i mates) table ≡ whole → written_from n w R (i + 1) c' (drop (i + 1) mates) table' ≡ whole
+written_again n w R i c mates table j c' table' whole h e f g k = rw (f, g, e) (sym (written_turn n w R i c mates table h) ∙ k)

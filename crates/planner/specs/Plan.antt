@@ -1,7 +1,8 @@
 -- The plan and its counts.
-use Rattle.std.specs.Prelude.{ℕ, ◌+◌, min, Bool, true, false, List, [], ◌∷◌, ltb, length}
+use Rattle.std.specs.Prelude.{Result, Ok, Err, ℕ, ◌+◌, min, Bool, true, false, List, [], ◌∷◌, ltb, length}
 use Rattle.ring.specs.declared.requests.Request.{Request}
 use Rattle.ring.specs.declared.fates.Fate.{Fate}
+use Rattle.ring.specs.declared.refusals.Refusal.{Refusal}
 use Rattle.ring.specs.Plans.{served}
 use Rattle.ring.specs.Matchings.{Pair}
 use Rattle.ring.specs.Answers.{InNumbers, gives, refuses}
@@ -9,8 +10,6 @@ use Rattle.chain.specs.ChainPart.{chain_part}
 use Rattle.planner.specs.declared.answers.Part.{Part}
 use Rattle.planner.specs.declared.answers.Part.TheVariants as part
 use Rattle.planner.specs.declared.answers.Summary.{Summary}
-use Rattle.planner.specs.declared.answers.PlanAnswer.{PlanAnswer}
-use Rattle.planner.specs.declared.answers.PlanAnswer.TheVariants as answer
 use Rattle.planner.specs.PairPart.{pair_part}
 
 -- the pair part, if it serves more
@@ -51,6 +50,6 @@ part_number part.Chain = 0
 part_number part.Pair = 1
 
 -- the answer of plan in numbers: "line 2's counts, part and ceiling are given"
-abbrev pub plan_in_numbers : PlanAnswer → InNumbers
-plan_in_numbers (answer.Planned s) = gives (s.chain ∷ s.matched ∷ s.paired ∷ part_number s.used ∷ s.ceiling ∷ [])
-plan_in_numbers (answer.Refused r) = refuses r
+abbrev pub plan_in_numbers : Result Summary Refusal → InNumbers
+plan_in_numbers (Ok s) = gives (s.chain ∷ s.matched ∷ s.paired ∷ part_number s.used ∷ s.ceiling ∷ [])
+plan_in_numbers (Err r) = refuses r

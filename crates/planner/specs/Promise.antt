@@ -1,9 +1,8 @@
 -- What plan promises.
-use Rattle.std.specs.Prelude.{ℕ, ◌-◌, min, ◌≡◌, List, ◌++◌, map, length, take, drop}
+use Rattle.std.specs.Prelude.{Result, Ok, Err, ℕ, ◌-◌, min, ◌≡◌, List, ◌++◌, map, length, take, drop}
 use Rattle.ring.specs.declared.requests.Request.{Request}
 use Rattle.ring.specs.declared.fates.Fate.{Fate}
 use Rattle.ring.specs.declared.refusals.Refusal.{Refusal}
-use Rattle.ring.specs.declared.refusals.Verdict.TheVariants as verdict
 use Rattle.ring.specs.Requests.{requests_of}
 use Rattle.ring.specs.Fates.{fate_number}
 use Rattle.ring.specs.Plans.{served, fates_of, Feasible, KeepsOff}
@@ -11,8 +10,6 @@ use Rattle.ring.specs.Matchings.{Pair, IsMatching, IsMaximum}
 use Rattle.ring.specs.Admission.{call_verdict}
 use Rattle.chain.specs.ChainPart.{chain_part}
 use Rattle.planner.specs.declared.answers.Summary.{Summary}
-use Rattle.planner.specs.declared.answers.PlanAnswer.{PlanAnswer}
-use Rattle.planner.specs.declared.answers.PlanAnswer.TheVariants as answer
 use Rattle.planner.specs.PairPart.{ByLower, pair_count}
 use Rattle.planner.specs.Plan.{ceiling_of, plan_of, summary}
 use Rattle.planner.specs.Ceiling.{ChainBound, MatchBound, Ceiling, TwoThirds}
@@ -42,18 +39,18 @@ pub record Demand3 (n w : ℕ) (R : List Request) (table : List ℕ) (counts : S
   pub ceiling_most : Ceiling n w R counts.ceiling
 
 -- a plan is made. Which maximum matching is found is open: `pairs` is one, and all else follows from it
-pub record PlanMade (n w : ℕ) (R : List Request) (before after : List ℕ) (result : PlanAnswer) : Type 0 where
+pub record PlanMade (n w : ℕ) (R : List Request) (before after : List ℕ) (result : Result Summary Refusal) : Type 0 where
   pub pairs : List Pair
   pub maximum : IsMaximum R pairs
   pub by_lower : ByLower pairs
   -- "line 2's counts, part and ceiling are given"
-  pub counts : result ≡ answer.Planned (summary n w R pairs)
+  pub counts : result ≡ Ok (summary n w R pairs)
   -- "Otherwise the first m entries alone are written"
   pub table : after ≡ map fate_number (plan_of n w R pairs) ++ drop (length R) before
   pub demand : Demand3 n w R after (summary n w R pairs) pairs
 
 -- the promise of plan: the first ground of 1 to 6 and nothing changed, or a plan
-pub record PlanPromise (n w : ℕ) (ends before after : List ℕ) (result : PlanAnswer) : Type 0 where
-  pub refused : (ground : Refusal) → call_verdict n w ends (length before) ≡ verdict.Refused ground
-      → (result ≡ answer.Refused ground) × (after ≡ before)
-  pub planned : call_verdict n w ends (length before) ≡ verdict.Allowed → PlanMade n w (requests_of ends) before after result
+pub record PlanPromise (n w : ℕ) (ends before after : List ℕ) (result : Result Summary Refusal) : Type 0 where
+  pub refused : (ground : Refusal) → call_verdict n w ends (length before) ≡ Err ground
+      → (result ≡ Err ground) × (after ≡ before)
+  pub planned : call_verdict n w ends (length before) ≡ (Ok tt) → PlanMade n w (requests_of ends) before after result

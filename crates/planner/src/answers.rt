@@ -1,8 +1,7 @@
-// What a call of plan answers.
-use ring::Refusal;
+// What a call of plan gives.
 
 // The part that the plan is.
-#[derive(Clone, Copy)]
+#[derive(Clone, Copy, Debug, PartialEq, Eq)]
 pub enum Part {
     Chain,
     Pair,
@@ -10,18 +9,11 @@ pub enum Part {
 
 // chain: the requests that the chain part serves. matched: the match count. paired: the requests that the pair part serves. ceiling: no
 // feasible plan serves more.
-#[derive(Clone, Copy)]
+#[derive(Clone, Copy, Debug, PartialEq, Eq)]
 pub struct Summary {
     pub chain: u16,
     pub matched: u16,
     pub paired: u16,
     pub used: Part,
     pub ceiling: u16,
-}
-
-// The counts, the part used and the ceiling, or the ground on which the call is turned down.
-#[derive(Clone, Copy)]
-pub enum PlanAnswer {
-    Planned(Summary),
-    Refused(Refusal),
 }

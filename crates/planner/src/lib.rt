@@ -6,5 +6,5 @@ pub mod pairs;
 pub mod plans;
 pub mod spares;
 
-pub use answers::{Part, PlanAnswer, Summary};
+pub use answers::{Part, Summary};
 pub use plans::plan;

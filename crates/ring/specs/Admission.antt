@@ -1,13 +1,10 @@
 -- The refusals that plan and check share: 1 to 6, "tested in the order written".
-use Rattle.std.specs.Prelude.{ℕ, ◌+◌, ◌/◌, ◌%◌, ◌||◌, List, [], ◌∷◌, eqb, leb, ltb, length}
-use Rattle.ring.specs.declared.rings.RingAnswer.{RingAnswer}
-use Rattle.ring.specs.declared.rings.RingAnswer.TheVariants as answer
+use Rattle.std.specs.Prelude.{Result, Ok, Err, ℕ, ◌+◌, ◌/◌, ◌%◌, ◌||◌, List, [], ◌∷◌, eqb, leb, ltb, length}
+use Rattle.ring.specs.declared.rings.Ring.{Ring}
 use Rattle.ring.specs.declared.refusals.Refusal.{Refusal}
 use Rattle.ring.specs.declared.refusals.Refusal.TheVariants.{NodeCount, ColourCount, RequestCount, RequestEnd, RequestEndsEqual}
 use Rattle.ring.specs.declared.refusals.Refusal.TheVariants.{TableShort}
-use Rattle.ring.specs.declared.refusals.Verdict.{Verdict}
-use Rattle.ring.specs.declared.refusals.Verdict.TheVariants.{Allowed, Refused}
-use Rattle.ring.specs.Refusals.{refuse_if, or_else}
+use Rattle.ring.specs.Refusals.{Verdict, refuse_if, or_else}
 
 -- "1 n not 3 to 256. 2 w not 1 to 128."
 unfoldable pub ring_verdict : ℕ → ℕ → Verdict
@@ -25,8 +22,8 @@ request_verdict n i x y = ends_verdict n x y (RequestEnd i) (RequestEndsEqual i)
 
 -- "Then by request number", from request i on
 unfoldable pub request_verdicts : ℕ → ℕ → List ℕ → Verdict
-request_verdicts n i [] = Allowed
-request_verdicts n i (x ∷ []) = Allowed
+request_verdicts n i [] = Ok tt
+request_verdicts n i (x ∷ []) = Ok tt
 request_verdicts n i (x ∷ y ∷ ends) = or_else (request_verdict n i x y) (request_verdicts n (i + 1) ends)
 
 -- "3 more than 512 requests, or an odd number of ends", of so many ends
@@ -45,14 +42,14 @@ call_verdict n w ends entries =
     (refuse_if (ltb entries (length ends / 2)) TableShort))
 
 -- the ring, or the refusal of a verdict
-abbrev pub ring_unless : Verdict → ℕ → ℕ → RingAnswer
-ring_unless Allowed n w = answer.Made (record { nodes = n; colours = w })
-ring_unless (Refused r) n w = answer.Refused r
+abbrev pub ring_unless : Verdict → ℕ → ℕ → Result Ring Refusal
+ring_unless (Ok tt) n w = Ok (record { nodes = n; colours = w })
+ring_unless (Err r) n w = Err r
 
 -- open: "1, 2"
-unfoldable pub ring_answer : ℕ → ℕ → RingAnswer
+unfoldable pub ring_answer : ℕ → ℕ → Result Ring Refusal
 ring_answer n w = ring_unless (ring_verdict n w) n w
 
 -- "1 to 6 as Plan"
-unfoldable pub call_answer : ℕ → ℕ → List ℕ → ℕ → RingAnswer
+unfoldable pub call_answer : ℕ → ℕ → List ℕ → ℕ → Result Ring Refusal
 call_answer n w ends entries = ring_unless (call_verdict n w ends entries) n w

@@ -1,5 +1,5 @@
 -- Refusals: the number of each, the values that it carries, and the order in which they are tested.
-use Rattle.std.specs.Prelude.{ℕ, Bool, true, false}
+use Rattle.std.specs.Prelude.{ℕ, Bool, true, false, Result, Ok, Err, ⊤}
 use Rattle.ring.specs.declared.refusals.Refusal.{Refusal}
 use Rattle.ring.specs.declared.refusals.Refusal.TheVariants.{NodeCount, ColourCount, RequestCount, RequestEnd, RequestEndsEqual}
 use Rattle.ring.specs.declared.refusals.Refusal.TheVariants.{TableShort, FateNumber, Conflict, CircuitEnd, CircuitEndsEqual}
@@ -8,8 +8,6 @@ use Rattle.ring.specs.declared.refusals.Refusal.TheVariants.{SerialNeverGiven, S
 use Rattle.ring.specs.declared.refusals.Refusal.TheVariants.{BlockCheck, StoredForm, TextForm, LineCount, SerialLive}
 use Rattle.ring.specs.declared.refusals.Refusal.TheVariants.{SerialConfirmed, MarkedRecord, CrewNumber, MarkedConversion}
 use Rattle.ring.specs.declared.refusals.Refusal.TheVariants.{RevisionLow, LinkLengths, ChargeRates}
-use Rattle.ring.specs.declared.refusals.Verdict.{Verdict}
-use Rattle.ring.specs.declared.refusals.Verdict.TheVariants.{Allowed, Refused}
 use Rattle.ring.specs.declared.refusals.Carried.{Carried}
 use Rattle.ring.specs.declared.refusals.Carried.TheVariants.{None, One, Two}
 
@@ -83,12 +81,16 @@ carried_by RevisionLow = None
 carried_by LinkLengths = None
 carried_by ChargeRates = None
 
+-- whether a ground is there: the first one in the order of the rules, or none
+abbrev pub Verdict : Type 0
+Verdict = Result ⊤ Refusal
+
 -- a ground, if its test holds
 abbrev pub refuse_if : Bool → Refusal → Verdict
-refuse_if true r = Refused r
-refuse_if false r = Allowed
+refuse_if true r = Err r
+refuse_if false r = Ok tt
 
 -- the first ground of two, "tested in the order written"
 abbrev pub or_else : Verdict → Verdict → Verdict
-or_else (Refused r) later = Refused r
-or_else Allowed later = later
+or_else (Err r) later = Err r
+or_else (Ok tt) later = later

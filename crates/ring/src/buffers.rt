@@ -6,15 +6,5 @@ ghost use Rattle.ring.specs.Buffers.{same_bytes};
 pub fn same_bytes(xs: &[u8], ys: &[u8]) -> bool
     ensures { result ≡ same_bytes xs.now ys.now }
 {
-    if xs.len() != ys.len() {
-        return false;
-    }
-    let mut i: usize = 0;
-    while i < xs.len() {
-        if xs[i] != ys[i] {
-            return false;
-        }
-        i += 1;
-    }
-    true
+    xs == ys
 }

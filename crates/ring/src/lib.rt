@@ -3,8 +3,6 @@
 
 pub mod buffers;
 pub mod fates;
-pub mod flags;
-pub mod numbers;
 pub mod refusals;
 pub mod requests;
 pub mod rings;

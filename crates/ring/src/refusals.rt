@@ -1,8 +1,8 @@
 // Every ground on which an operation turns a caller down, with the values that it carries.
 ghost use Rattle.std.specs.Prelude.{◌≡◌};
-ghost use Rattle.ring.specs.Refusals.{number_of, carried_by, refuse_if, or_else};
+ghost use Rattle.ring.specs.Refusals.{number_of, carried_by, refuse_if};
 
-#[derive(Clone, Copy)]
+#[derive(Clone, Copy, Debug, PartialEq, Eq)]
 pub enum Refusal {
     NodeCount,
     ColourCount,
@@ -38,15 +38,8 @@ pub enum Refusal {
     ChargeRates,
 }
 
-// Whether a ground is there: the first one in the order of the rules, or none.
-#[derive(Clone, Copy)]
-pub enum Verdict {
-    Allowed,
-    Refused(Refusal),
-}
-
 // The values that a refusal carries.
-#[derive(Clone, Copy)]
+#[derive(Clone, Copy, Debug, PartialEq, Eq)]
 pub enum Carried {
     None,
     One(u16),
@@ -54,101 +47,61 @@ pub enum Carried {
 }
 
 // A ground, if its test holds.
-pub fn refuse_if(test: bool, ground: Refusal) -> Verdict
+pub fn refuse_if(test: bool, ground: Refusal) -> Result<(), Refusal>
     ensures { result ≡ refuse_if test ground }
 {
-    if test {
-        return Verdict::Refused(ground);
-    }
-    Verdict::Allowed
+    if test { Err(ground) } else { Ok(()) }
 }
 
-// The first ground of two, in their order.
-pub fn or_else(first: Verdict, later: Verdict) -> Verdict
-    ensures { result ≡ or_else first later }
-{
-    match first {
-        Verdict::Refused(ground) => Verdict::Refused(ground),
-        Verdict::Allowed => later,
+impl Refusal {
+    // Its number in the rules.
+    pub fn number(self) -> u16
+        ensures { result ≡ number_of self }
+    {
+        match self {
+            Refusal::NodeCount => 1,
+            Refusal::ColourCount => 2,
+            Refusal::RequestCount => 3,
+            Refusal::RequestEnd(_) | Refusal::CircuitEnd => 4,
+            Refusal::RequestEndsEqual(_) | Refusal::CircuitEndsEqual => 5,
+            Refusal::TableShort => 6,
+            Refusal::FateNumber(_) => 7,
+            Refusal::Conflict(_, _) => 8,
+            Refusal::WayNumber => 9,
+            Refusal::ColourNumber => 10,
+            Refusal::ColourHeld => 11,
+            Refusal::BookFull => 12,
+            Refusal::SerialsUsedUp => 13,
+            Refusal::SerialNeverGiven => 14,
+            Refusal::SerialRemoved => 15,
+            Refusal::LinkNumber => 16,
+            Refusal::BufferShort => 17,
+            Refusal::StoredLength => 18,
+            Refusal::BlockCheck => 19,
+            Refusal::StoredForm => 20,
+            Refusal::TextForm => 21,
+            Refusal::LineCount => 22,
+            Refusal::SerialLive => 23,
+            Refusal::SerialConfirmed => 24,
+            Refusal::MarkedRecord => 25,
+            Refusal::CrewNumber => 26,
+            Refusal::MarkedConversion => 27,
+            Refusal::RevisionLow => 28,
+            Refusal::LinkLengths => 29,
+            Refusal::ChargeRates => 30,
+        }
     }
-}
 
-// The refusal's number in the rules.
-pub fn number(refusal: Refusal) -> u16
-    ensures { result ≡ number_of refusal }
-{
-    match refusal {
-        Refusal::NodeCount => 1,
-        Refusal::ColourCount => 2,
-        Refusal::RequestCount => 3,
-        Refusal::RequestEnd(_) => 4,
-        Refusal::RequestEndsEqual(_) => 5,
-        Refusal::TableShort => 6,
-        Refusal::FateNumber(_) => 7,
-        Refusal::Conflict(_, _) => 8,
-        Refusal::CircuitEnd => 4,
-        Refusal::CircuitEndsEqual => 5,
-        Refusal::WayNumber => 9,
-        Refusal::ColourNumber => 10,
-        Refusal::ColourHeld => 11,
-        Refusal::BookFull => 12,
-        Refusal::SerialsUsedUp => 13,
-        Refusal::SerialNeverGiven => 14,
-        Refusal::SerialRemoved => 15,
-        Refusal::LinkNumber => 16,
-        Refusal::BufferShort => 17,
-        Refusal::StoredLength => 18,
-        Refusal::BlockCheck => 19,
-        Refusal::StoredForm => 20,
-        Refusal::TextForm => 21,
-        Refusal::LineCount => 22,
-        Refusal::SerialLive => 23,
-        Refusal::SerialConfirmed => 24,
-        Refusal::MarkedRecord => 25,
-        Refusal::CrewNumber => 26,
-        Refusal::MarkedConversion => 27,
-        Refusal::RevisionLow => 28,
-        Refusal::LinkLengths => 29,
-        Refusal::ChargeRates => 30,
-    }
-}
-
-// The request numbers that it carries.
-pub fn carried_by(refusal: Refusal) -> Carried
-    ensures { result ≡ carried_by refusal }
-{
-    match refusal {
-        Refusal::NodeCount => Carried::None,
-        Refusal::ColourCount => Carried::None,
-        Refusal::RequestCount => Carried::None,
-        Refusal::RequestEnd(request) => Carried::One(request),
-        Refusal::RequestEndsEqual(request) => Carried::One(request),
-        Refusal::TableShort => Carried::None,
-        Refusal::FateNumber(request) => Carried::One(request),
-        Refusal::Conflict(first, second) => Carried::Two(first, second),
-        Refusal::CircuitEnd => Carried::None,
-        Refusal::CircuitEndsEqual => Carried::None,
-        Refusal::WayNumber => Carried::None,
-        Refusal::ColourNumber => Carried::None,
-        Refusal::ColourHeld => Carried::None,
-        Refusal::BookFull => Carried::None,
-        Refusal::SerialsUsedUp => Carried::None,
-        Refusal::SerialNeverGiven => Carried::None,
-        Refusal::SerialRemoved => Carried::None,
-        Refusal::LinkNumber => Carried::None,
-        Refusal::BufferShort => Carried::None,
-        Refusal::StoredLength => Carried::None,
-        Refusal::BlockCheck => Carried::None,
-        Refusal::StoredForm => Carried::None,
-        Refusal::TextForm => Carried::None,
-        Refusal::LineCount => Carried::None,
-        Refusal::SerialLive => Carried::None,
-        Refusal::SerialConfirmed => Carried::None,
-        Refusal::MarkedRecord => Carried::None,
-        Refusal::CrewNumber => Carried::None,
-        Refusal::MarkedConversion => Carried::None,
-        Refusal::RevisionLow => Carried::None,
-        Refusal::LinkLengths => Carried::None,
-        Refusal::ChargeRates => Carried::None,
+    // The request numbers that it carries.
+    pub fn carried(self) -> Carried
+        ensures { result ≡ carried_by self }
+    {
+        match self {
+            Refusal::RequestEnd(request)
+            | Refusal::RequestEndsEqual(request)
+            | Refusal::FateNumber(request) => Carried::One(request),
+            Refusal::Conflict(first, second) => Carried::Two(first, second),
+            _ => Carried::None,
+        }
     }
 }

@@ -2,18 +2,12 @@
 ghost use Rattle.std.specs.Prelude.{◌≡◌};
 ghost use Rattle.ring.specs.Admission.{ring_answer};
 
-use super::refusals::Refusal;
+use super::refusals::{Refusal, refuse_if};
 
-#[derive(Clone, Copy)]
+#[derive(Clone, Copy, Debug, PartialEq, Eq)]
 pub struct Ring {
     pub nodes: u16,
     pub colours: u16,
-}
-
-#[derive(Clone, Copy)]
-pub enum RingAnswer {
-    Made(Ring),
-    Refused(Refusal),
 }
 
 impl Ring {
@@ -28,16 +22,18 @@ impl Ring {
     pub const MAX_REQUESTS: usize = 512;
 
     // The ring of n nodes and w colours, or refusal 1 or 2.
-    pub fn new(n: u16, w: u16) -> RingAnswer
+    pub fn new(n: u16, w: u16) -> Result<Ring, Refusal>
         ensures { result ≡ ring_answer n w }
     {
-        if n < Self::MIN_NODES || Self::MAX_NODES < n {
-            return RingAnswer::Refused(Refusal::NodeCount);
-        }
-        if w < Self::MIN_COLOURS || Self::MAX_COLOURS < w {
-            return RingAnswer::Refused(Refusal::ColourCount);
-        }
-        RingAnswer::Made(Ring {
+        refuse_if(
+            n < Self::MIN_NODES || Self::MAX_NODES < n,
+            Refusal::NodeCount,
+        )?;
+        refuse_if(
+            w < Self::MIN_COLOURS || Self::MAX_COLOURS < w,
+            Refusal::ColourCount,
+        )?;
+        Ok(Ring {
             nodes: n,
             colours: w,
         })

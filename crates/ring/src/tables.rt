@@ -6,9 +6,5 @@ pub fn clear(table: &mut [u16], m: usize)
     requires { m ≤ length table.old }
     ensures { table.new ≡ replicate m 0 ++ drop m table.old }
 {
-    let mut i: usize = 0;
-    while i < m {
-        table[i] = 0;
-        i += 1;
-    }
+    table[..m].fill(0);
 }

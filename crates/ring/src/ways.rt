@@ -5,11 +5,10 @@ ghost use Rattle.ring.specs.Internal.Sharing.{sharing};
 ghost use Rattle.ring.specs.Chords.{inside};
 ghost use Rattle.ring.specs.Routing.{seam_if, shorter_way};
 
-use super::numbers::{larger, smaller};
 use super::requests::Request;
 
 // The two ways of a request {a, b}: links a to b - 1, or all the others.
-#[derive(Clone, Copy)]
+#[derive(Clone, Copy, Debug, PartialEq, Eq)]
 pub enum Way {
     Plain,
     Seam,
@@ -42,7 +41,7 @@ fn contained(r: Request, s: Request) -> bool
 fn overlapping(r: Request, s: Request) -> bool
     ensures { result ≡ ltb (max r.a s.a) (min r.b s.b) }
 {
-    larger(r.a, s.a) < smaller(r.b, s.b)
+    r.a.max(s.a) < r.b.min(s.b)
 }
 
 // Whether the plain way of r shares a link with a way of s.

@@ -3,165 +3,110 @@
 // The file beside, which only one session can make, is the lock: who made it is alone with the book until it takes the place of the file or
 // is removed. Until the rename nothing is changed, and the file beside is removed on every way out; from then on the name may be another
 // session's, and is left alone.
-use super::failures::{EEXIST, say, say_busy, say_unchanged, say_unsure};
-use super::files::{close, create, hear, open_folder, remove, rename};
+use super::desks::{Desk, close};
+use super::failures::{say_busy, say_unchanged, say_unsure};
 use super::pauses::pause;
+use book_text::obeying::Obeyed;
 use std::env::Env;
 use std::fs::{Files, OpenFile};
-use std::io::{Eprint, Print, Write};
+use std::io;
+use std::io::{Error, ErrorKind, Write};
 use std::rt::Runtime;
-use std::time::Clock;
-use streams::number;
+use streams::say;
 
-#[derive(Drop)]
-enum Taking<F> {
-    Taken(F),
-    Busy,
-    Failed(i32),
-}
-
+// How far the new bytes came that are not known to be on disk, and what failed: nowhere; not into the place of the old ones; or into it.
 #[derive(Clone, Copy)]
-enum Stage {
-    Done,
-    Failed(i32),
-}
-
-// How far the new bytes came: on disk; in the place of the old ones and perhaps not on disk; or nowhere, and what failed.
-#[derive(Clone, Copy)]
-enum Stored {
-    OnDisk,
-    InPlace(i32),
-    Unwritten(i32),
-    Unplaced(i32),
-}
-
-// Makes the file beside. Where it is there already, it looks again for about two seconds. It waits before each try, the first one too, so
-// that a session with many changes to make lets the others in between.
-fn take<R: Files + Clock>(rt: &R, beside: &[u8]) -> Taking<R::File> {
-    let mut tries: u32 = 1800;
-    while 0 < tries {
-        pause(rt);
-        let made = create(rt, beside);
-        match made {
-            Ok(file) => return Taking::Taken(file),
-            Err(error) => {
-                let failed = number(error);
-                if failed != EEXIST {
-                    return Taking::Failed(failed);
-                }
-            }
-        }
-        tries -= 1;
-    }
-    Taking::Busy
-}
-
-// Closes the file beside and removes it: nothing is changed.
-fn give_back<R: Files>(rt: &R, file: R::File, beside: &[u8]) {
-    drop(file);
-    let _ = remove(rt, beside);
+enum StoreError {
+    Unwritten(Error),
+    Unplaced(Error),
+    InPlace(Error),
 }
 
 // Writes the bytes to the file beside and brings them to disk.
-fn fill<R: Files + Env>(rt: &R, file: R::File, bytes: &[u8]) -> Stage {
-    let mut next = file;
-    if let Err(error) = next.write_all(bytes) {
-        return Stage::Failed(number(error));
-    }
-    if let Err(error) = next.sync_all() {
-        return Stage::Failed(number(error));
-    }
-    let error = close(rt, next);
-    if error != 0 {
-        return Stage::Failed(error);
-    }
-    Stage::Done
+fn fill<R: Files + Env>(rt: &R, mut file: R::File, bytes: &[u8]) -> io::Result<()> {
+    file.write_all(bytes)?;
+    file.sync_all()?;
+    close(rt, file)
 }
 
-// Puts the file beside in the place of the file, and brings that to disk. The folder is opened first: that it cannot be is found out while
-// nothing is changed.
-fn place<R: Files>(rt: &R, path: &[u8], beside: &[u8]) -> Stored {
-    let folder = match open_folder(rt, path) {
-        Ok(folder) => folder,
-        Err(error) => return Stored::Unplaced(number(error)),
-    };
-    if let Err(error) = rename(rt, beside, path) {
-        return Stored::Unplaced(number(error));
-    }
-    if let Err(error) = folder.sync_all() {
-        return Stored::InPlace(number(error));
-    }
-    Stored::OnDisk
-}
-
-// Stores the bytes in the file.
-fn store<R: Files + Env>(
-    rt: &R,
-    file: R::File,
-    path: &[u8],
-    beside: &[u8],
-    bytes: &[u8],
-) -> Stored {
-    let filled = fill(rt, file, bytes);
-    if let Stage::Failed(error) = filled {
-        return Stored::Unwritten(error);
-    }
-    place(rt, path, beside)
-}
-
-// Stores the bytes, and only then says the reply.
-fn store_and_say<R: Files + Env + Print + Eprint>(
-    rt: &R,
-    file: R::File,
-    path: &[u8],
-    beside: &[u8],
-    bytes: &[u8],
-    reply: &[u8],
-) -> bool {
-    let stored = store(rt, file, path, beside, bytes);
-    match stored {
-        Stored::OnDisk => say(rt, reply),
-        Stored::InPlace(error) => say_unsure(rt, path, error),
-        Stored::Unwritten(error) => {
-            let _ = remove(rt, beside);
-            say_unchanged(rt, beside, b" cannot be written: ", error)
+impl<R: Runtime> Desk<'_, R> {
+    // Makes the file beside. Where it is there already, it looks again for about two seconds, and gives none if it stays. It waits before
+    // each try, the first one too, so that a session with many changes to make lets the others in between.
+    fn take(&self) -> io::Result<Option<R::File>> {
+        for _ in 0..1800 {
+            pause(self.rt);
+            match self.make_beside() {
+                Ok(file) => return Ok(Some(file)),
+                Err(error) if error.kind() == ErrorKind::AlreadyExists => {}
+                Err(error) => return Err(error),
+            }
         }
-        Stored::Unplaced(error) => {
-            let _ = remove(rt, beside);
-            say_unchanged(rt, path, b" cannot be replaced: ", error)
+        Ok(None)
+    }
+
+    // Closes the file beside and removes it: nothing is changed.
+    fn give_back(&self, file: R::File) {
+        drop(file);
+        let _ = self.remove_beside();
+    }
+
+    // Puts the file beside in the place of the file, and brings that to disk. The folder is opened first: that it cannot be is found out
+    // while nothing is changed.
+    fn place(&self) -> Result<(), StoreError> {
+        let folder = self.open_folder().map_err(StoreError::Unplaced)?;
+        self.replace().map_err(StoreError::Unplaced)?;
+        folder.sync_all().map_err(StoreError::InPlace)
+    }
+
+    // Stores the bytes in the file.
+    fn store(&self, file: R::File, bytes: &[u8]) -> Result<(), StoreError> {
+        fill(self.rt, file, bytes).map_err(StoreError::Unwritten)?;
+        self.place()
+    }
+
+    // Stores the bytes, and only then says the reply.
+    fn store_and_say(&self, file: R::File, bytes: &[u8], reply: &[u8]) -> io::Result<()> {
+        match self.store(file, bytes) {
+            Ok(()) => say(self.rt, reply),
+            Err(StoreError::InPlace(error)) => say_unsure(self.rt, self.path, error),
+            Err(StoreError::Unwritten(error)) => {
+                let _ = self.remove_beside();
+                say_unchanged(self.rt, self.beside, b" cannot be written: ", error)
+            }
+            Err(StoreError::Unplaced(error)) => {
+                let _ = self.remove_beside();
+                say_unchanged(self.rt, self.path, b" cannot be replaced: ", error)
+            }
         }
     }
-}
 
-// Obeys the line alone with the book.
-fn change_alone<R: Files + Env + Print + Eprint>(
-    rt: &R,
-    file: R::File,
-    path: &[u8],
-    beside: &[u8],
-    line: &[u8],
-) -> bool {
-    let mut reply = [0u8; 16384];
-    let mut form = [0u8; 7168];
-    let heard = hear(rt, path, line, &mut reply, &mut form);
-    let length = heard.reply;
-    let size = heard.form;
-    if heard.changes {
-        return store_and_say(rt, file, path, beside, &form[..size], &reply[..length]);
+    // Obeys the line alone with the book.
+    fn change_alone(&self, file: R::File, line: &[u8]) -> io::Result<()> {
+        let mut reply = [0u8; 16384];
+        let mut form = [0u8; 7168];
+        let heard = self.hear(line, &mut reply, &mut form);
+        if let Ok(
+            Obeyed {
+                reply: length,
+                form: Some(size),
+            },
+        ) = heard
+        {
+            return self.store_and_say(file, &form[..size], &reply[..length]);
+        }
+        self.give_back(file);
+        match heard {
+            Ok(obeyed) => say(self.rt, &reply[..obeyed.reply]),
+            Err(error) => say_unchanged(self.rt, self.path, b" cannot be read: ", error),
+        }
     }
-    give_back(rt, file, beside);
-    if heard.read {
-        return say(rt, &reply[..length]);
-    }
-    say_unchanged(rt, path, b" cannot be read: ", heard.error)
-}
 
-// Obeys a line that may change the book, and says the answer.
-pub fn change<R: Runtime>(rt: &R, path: &[u8], beside: &[u8], line: &[u8]) -> bool {
-    let taking = take(rt, beside);
-    match taking {
-        Taking::Taken(file) => change_alone(rt, file, path, beside, line),
-        Taking::Busy => say_busy(rt, beside),
-        Taking::Failed(error) => say_unchanged(rt, beside, b" cannot be made: ", error),
+    // Obeys a line that may change the book, and says the answer.
+    pub fn change(&self, line: &[u8]) -> io::Result<()> {
+        match self.take() {
+            Ok(Some(file)) => self.change_alone(file, line),
+            Ok(None) => say_busy(self.rt, self.beside),
+            Err(error) => say_unchanged(self.rt, self.beside, b" cannot be made: ", error),
+        }
     }
 }

@@ -1,130 +1,79 @@
 // The lines of standard input: each is answered when its line feed has come.
-ghost use Rattle.std.specs.Prelude.{◌≤◌, length};
+ghost use Rattle.std.specs.Prelude.{◌≤◌};
 
-use super::failures::say;
-use super::serving::serve;
+use super::desks::Desk;
+use std::io;
 use std::io::Read;
 use std::rt::Runtime;
+use streams::say;
 
-// How many bytes of the present line are kept, and whether there is more to read.
-#[derive(Clone, Copy)]
-pub struct Turn {
-    pub kept: usize,
-    pub more: bool,
+// The present line, as far as it came. It has room for one byte more than a line may have: a longer one shows by it.
+#[derive(Drop)]
+struct Line {
+    bytes: [u8; 1025],
+    length: usize,
+    ghost within: { length ≤ 1025 },
 }
 
-// Keeps a byte of the line, if there is room for it.
-fn keep(line: &mut [u8], kept: usize, byte: u8) -> usize
-    requires { kept ≤ length line.old }
-    ensures { result ≤ length line.new }
-{
-    if line.len() <= kept {
-        return kept;
+impl Line {
+    fn new() -> Line {
+        Line {
+            bytes: [0; 1025],
+            length: 0,
+        }
     }
-    line[kept] = byte;
-    kept + 1
-}
 
-// Takes a byte; the line feed has the line answered. There is no more to read where the answer cannot be said.
-fn take_byte<R: Runtime>(
-    rt: &R,
-    path: &[u8],
-    beside: &[u8],
-    line: &mut [u8],
-    kept: usize,
-    byte: u8,
-) -> Turn
-    requires { kept ≤ length line.old }
-    ensures { result.kept ≤ length line.new }
-{
-    let size = keep(line, kept, byte);
-    if byte != b'\n' {
-        return Turn {
-            kept: size,
-            more: true,
-        };
+    // Keeps a byte, if there is room for it.
+    fn keep(&mut self, byte: u8) {
+        if self.length < 1025 {
+            self.bytes[self.length] = byte;
+            self.length += 1;
+        }
     }
-    let said = serve(rt, path, beside, &line[..size]);
-    Turn {
-        kept: 0,
-        more: said,
+
+    fn clear(&mut self) {
+        self.length = 0;
     }
 }
 
-// Takes the bytes that came.
-fn take_in<R: Runtime>(
-    rt: &R,
-    path: &[u8],
-    beside: &[u8],
-    line: &mut [u8],
-    kept: usize,
-    bytes: &[u8],
-) -> Turn
-    requires { kept ≤ length line.old }
-    ensures { result.kept ≤ length line.new }
-{
-    let mut size = kept;
-    let mut more = true;
-    let mut i: usize = 0;
-    while i < bytes.len() && more {
-        let turn = take_byte(rt, path, beside, line, size, bytes[i]);
-        size = turn.kept;
-        more = turn.more;
-        i += 1;
+impl<R: Runtime> Desk<'_, R> {
+    // Answers the line and begins the next one.
+    fn end_line(&self, line: &mut Line) -> io::Result<()> {
+        let said = self.serve(&line.bytes[..line.length]);
+        line.clear();
+        said
     }
-    Turn {
-        kept: size,
-        more: more,
-    }
-}
 
-// Reads once: a terminal gives a line when it is entered.
-fn listen<R: Runtime>(
-    rt: &R,
-    input: &mut R::Reader,
-    path: &[u8],
-    beside: &[u8],
-    line: &mut [u8],
-    kept: usize,
-) -> Turn
-    requires { kept ≤ length line.old }
-    ensures { result.kept ≤ length line.new }
-{
-    let mut bytes = [0u8; 4096];
-    let got = input.read(&mut bytes);
-    let Ok(count) = got else {
-        say(rt, b"error the input cannot be read\n");
-        return Turn {
-            kept: 0,
-            more: false,
-        };
-    };
-    if count == 0 {
-        return Turn {
-            kept: kept,
-            more: false,
-        };
+    // Takes the bytes that came; a line feed has the line answered.
+    fn take_in(&self, line: &mut Line, bytes: &[u8]) -> io::Result<()> {
+        for byte in bytes {
+            line.keep(*byte);
+            if *byte == b'\n' {
+                self.end_line(line)?;
+            }
+        }
+        Ok(())
     }
-    take_in(rt, path, beside, line, kept, &bytes[..count])
-}
 
-// Answers the lines to the end of the input. Nothing says that an input ends, so the loop counts its turns down, from a number that no run
-// uses up.
-pub fn talk<R: Runtime>(rt: &R, path: &[u8], beside: &[u8]) {
-    let mut input = rt.reader();
-    // One byte more than a line may have: a longer one shows by it.
-    let mut line = [0u8; 1025];
-    let mut kept: usize = 0;
-    let mut more = true;
-    let mut turns = u64::MAX;
-    while turns > 0 && more {
-        let turn = listen(rt, &mut input, path, beside, &mut line, kept);
-        kept = turn.kept;
-        more = turn.more;
-        turns -= 1;
-    }
-    // What stands behind the last line feed.
-    if 0 < kept {
-        serve(rt, path, beside, &line[..kept]);
+    // Answers the lines to the end of the input: a terminal gives a line when it is entered. Nothing says that an input ends, so the loop
+    // counts its turns, up to a number that no run uses up.
+    pub fn talk(&self) -> io::Result<()> {
+        let mut input = self.rt.reader();
+        let mut line = Line::new();
+        let mut bytes = [0u8; 4096];
+        for _ in 0..u64::MAX {
+            let Ok(count) = input.read(&mut bytes) else {
+                return say(self.rt, b"error the input cannot be read\n");
+            };
+            if count == 0 {
+                break;
+            }
+            self.take_in(&mut line, &bytes[..count])?;
+        }
+        // What stands behind the last line feed.
+        if line.length > 0 {
+            self.end_line(&mut line)?;
+        }
+        Ok(())
     }
 }

@@ -2,20 +2,17 @@
 // output.
 #![tactic(auto)]
 
-ghost use Rattle.std.specs.Prelude.{◌≡◌, cond};
-ghost use Rattle.stored.specs.Converting.{convert_answer, after_convert, back_answer, after_back};
+ghost use Rattle.std.specs.Prelude.{IfOk, length, ◌≤◌};
 
 use book_replies::replies::put_refused;
 use ring::Refusal;
-use ring::buffers::same_bytes;
-use ring::numbers::wide;
 use std::env::{Env, FillError};
 use std::fs::Files;
 use std::io::{Cursor, Eprint, Error, Input, Print, Read, Write};
-use std::str;
-use stored::StoreAnswer;
+use std::{io, str};
 use stored::conversions::{convert, convert_back};
-use streams::{Reading, answer, file_name, open_read, read_to_end};
+use streams::{answer, file_name, is_given, open_read, read_to_end};
+use texts::writing::Writer;
 
 // The system's number of the error for a name that is too long.
 const ENAMETOOLONG: i32 = 36;
@@ -36,125 +33,74 @@ example: rings convert <old.book >new.book\n",
     );
 }
 
-// The output of the check for a text.
-fn print_check<R: Print + Eprint>(rt: &R, text: &[u8]) {
-    let mut out = [0u8; 32];
-    let size = check_text::answer(text, &mut out);
-    answer(rt, &out[..size]);
-}
-
-// Says on standard error that the input cannot be read.
-fn say_unread<R: Eprint>(rt: &R) {
-    let _ = rt.eprint("error the input cannot be read\n");
-}
-
-// The check of what can be read.
-fn check<R: Print + Eprint, I: Read>(rt: &R, input: &mut I) {
+// The check of what can be read. An error is one of the input's, here and below.
+fn check<R: Print + Eprint, I: Read>(rt: &R, input: &mut I) -> io::Result<()> {
     // One byte more than a text may have: a longer input shows by it.
     let mut text = [0u8; 16385];
-    let reading = read_to_end(input, &mut text);
-    match reading {
-        Reading::Read(length) => print_check(rt, &text[..length]),
-        Reading::Failed(_) => say_unread(rt),
-    }
-}
-
-// Says a text of words and numbers on standard error.
-fn complain<R: Eprint>(rt: &R, text: &[u8]) {
-    if let Ok(words) = str::from_utf8(text) {
-        let _ = rt.eprint(words);
-    }
+    let length = read_to_end(input, &mut text)?;
+    let mut out = [0u8; 32];
+    let size = check_text::answer(&text[..length], &mut out);
+    answer(rt, &out[..size]);
+    Ok(())
 }
 
 // Says a refusal on standard error.
 fn say_refused<R: Eprint>(rt: &R, refusal: Refusal) {
     let mut line = [0u8; 174];
-    let size = put_refused(&mut line, 0, refusal);
-    complain(rt, &line[..size]);
+    let mut writer = Writer::new(&mut line);
+    put_refused(&mut writer, refusal);
+    let size = writer.len();
+    if let Ok(words) = str::from_utf8(&line[..size]) {
+        let _ = rt.eprint(words);
+    }
 }
 
-// Puts the other form of a stored book into a buffer.
-fn put_converted(bytes: &[u8], back: bool, out: &mut [u8]) -> StoreAnswer
-    ensures answer { result ≡ cond back (back_answer bytes.now out.old)
-        (convert_answer bytes.now out.old) }
-    ensures buffer { out.new ≡ cond back (after_back bytes.now out.old)
-        (after_convert bytes.now out.old) }
+// What a conversion makes of the stored book that can be read goes to standard output, or its refusal to standard error.
+fn convert_input<R: Print + Eprint + Input, C: FnOnce(&[u8], &mut [u8]) -> Result<u16, Refusal>>(
+    rt: &R,
+    conversion: C,
+) -> io::Result<()>
+    requires callable { C.IsAlwaysCallable conversion }
+    requires fits { (bytes before result after : _) → C.post conversion bytes before result after
+        → IfOk result (λ size. size ≤ length after.now) }
 {
-    if back {
-        return convert_back(bytes, out);
-    }
-    convert(bytes, out)
-}
-
-// The other form of a stored book to standard output, or its refusal.
-fn print_converted<R: Print + Eprint>(rt: &R, bytes: &[u8], back: bool) {
-    let mut out = [0u8; 7168];
-    let converted = put_converted(bytes, back, &mut out);
-    match converted {
-        StoreAnswer::Stored(length) => {
-            let size = wide(length);
-            answer(rt, &out[..size]);
-        }
-        StoreAnswer::Refused(refusal) => say_refused(rt, refusal),
-    }
-}
-
-// The conversion of what can be read.
-fn convert_input<R: Print + Eprint + Input>(rt: &R, back: bool) {
     // One byte more than a stored book may have: a longer input shows by it.
     let mut bytes = [0u8; 7169];
     let mut input = rt.reader();
-    let reading = read_to_end(&mut input, &mut bytes);
-    match reading {
-        Reading::Read(length) => print_converted(rt, &bytes[..length], back),
-        Reading::Failed(_) => say_unread(rt),
+    let length = read_to_end(&mut input, &mut bytes)?;
+    let mut out = [0u8; 7168];
+    match conversion(&bytes[..length], &mut out) {
+        Ok(size) => answer(rt, &out[..usize::from(size)]),
+        Err(refusal) => say_refused(rt, refusal),
     }
-}
-
-// Whether the program was given so many arguments.
-fn is_given<R: Env>(rt: &R, argument: usize) -> bool {
-    !matches!(rt.arg(argument, &mut []), Err(FillError::NotPresent))
+    Ok(())
 }
 
 // `convert`, alone or with `back` behind it.
-fn convert_as_told<R: Print + Eprint + Input + Env>(rt: &R) {
+fn convert_as_told<R: Print + Eprint + Input + Env>(rt: &R) -> io::Result<()> {
     let mut word = [0u8; 16];
-    match rt.arg(2, &mut word) {
-        Err(FillError::NotPresent) => convert_input(rt, false),
-        Err(FillError::TooLong) => usage(rt),
-        Ok(length) => {
-            if same_bytes(&word[..length], b"back") {
-                convert_input(rt, true);
-                return;
-            }
+    match rt.arg(2, &mut word).map(|length| &word[..length]) {
+        Err(FillError::NotPresent) => convert_input(rt, convert),
+        Ok(b"back") => convert_input(rt, convert_back),
+        _ => {
             usage(rt);
+            Ok(())
         }
     }
 }
 
-// What the orders of a book pay, by the text on standard input.
-fn print_charges<R: Print + Eprint + Input>(rt: &R, bytes: &[u8]) {
-    // One byte more than a text may have: a longer input shows by it.
-    let mut text = [0u8; 8193];
-    let mut input = rt.reader();
-    let reading = read_to_end(&mut input, &mut text);
-    let Reading::Read(length) = reading else {
-        say_unread(rt);
-        return;
-    };
-    let mut out = [0u8; 16384];
-    let size = charges_text::answer(bytes, &text[..length], &mut out);
-    answer(rt, &out[..size]);
-}
-
-// The charges by the book in a file.
-fn charges<R: Print + Eprint + Input, F: Read>(rt: &R, file: &mut F) {
+// The charges by the book in a file and by the text on standard input.
+fn charges<R: Print + Eprint + Input, F: Read>(rt: &R, file: &mut F) -> io::Result<()> {
+    // One byte more than a stored book or a text may have: a longer input shows by it.
     let mut bytes = [0u8; 7169];
-    let reading = read_to_end(file, &mut bytes);
-    match reading {
-        Reading::Read(length) => print_charges(rt, &bytes[..length]),
-        Reading::Failed(_) => say_unread(rt),
-    }
+    let mut text = [0u8; 8193];
+    let size = read_to_end(file, &mut bytes)?;
+    let mut input = rt.reader();
+    let length = read_to_end(&mut input, &mut text)?;
+    let mut out = [0u8; 16384];
+    let size = charges_text::answer(&bytes[..size], &text[..length], &mut out);
+    answer(rt, &out[..size]);
+    Ok(())
 }
 
 // Says on standard error what failed and the system's words for it, without the number that stands in brackets behind them.
@@ -163,10 +109,9 @@ fn fail<R: Eprint>(rt: &R, what: &str, error: Error) {
     let mut out = Cursor::new(&mut text[..]);
     let _ = write!(out, "{error}");
     let said = str::from_utf8(&text).unwrap_or("");
-    let words = match said.split_once(" (os error ") {
-        Some((words, _)) => words,
-        None => "unknown error",
-    };
+    let words = said
+        .split_once(" (os error ")
+        .map_or("unknown error", |parts| parts.0);
     let _ = rt.eprint(what);
     let _ = rt.eprint(": ");
     let _ = rt.eprint(words);
@@ -180,62 +125,53 @@ fn named_file<R: Eprint + Env + Files>(rt: &R) -> Option<R::File> {
         fail(rt, "rings", Error::from_raw_os_error(ENAMETOOLONG));
         return None;
     };
-    let opened = open_read(rt, &path[..length]);
-    match opened {
-        Ok(file) => Some(file),
-        Err(error) => {
-            fail(rt, file_name(&path[..length]).unwrap_or("rings"), error);
-            None
+    let name = &path[..length];
+    open_read(rt, name)
+        .inspect_err(|error| fail(rt, file_name(name).unwrap_or("rings"), *error))
+        .ok()
+}
+
+// The check of the file that the second argument names, or of standard input.
+fn check_as_told<R: Print + Eprint + Input + Env + Files>(rt: &R) -> io::Result<()> {
+    if !is_given(rt, 2) {
+        let mut input = rt.reader();
+        return check(rt, &mut input);
+    }
+    let Some(mut file) = named_file(rt) else {
+        return Ok(());
+    };
+    check(rt, &mut file)
+}
+
+// The charges by the file that the second argument names.
+fn charges_as_told<R: Print + Eprint + Input + Env + Files>(rt: &R) -> io::Result<()> {
+    let Some(mut file) = named_file(rt) else {
+        return Ok(());
+    };
+    charges(rt, &mut file)
+}
+
+// The subcommand that the first argument names.
+fn run<R: Print + Eprint + Input + Env + Files>(rt: &R) -> io::Result<()> {
+    let mut word = [0u8; 16];
+    let length = rt.arg(1, &mut word).unwrap_or(0);
+    if is_given(rt, 3) {
+        usage(rt);
+        return Ok(());
+    }
+    match &word[..length] {
+        b"check" => check_as_told(rt),
+        b"convert" => convert_as_told(rt),
+        b"charges" if is_given(rt, 2) => charges_as_told(rt),
+        _ => {
+            usage(rt);
+            Ok(())
         }
     }
 }
 
-// The check of the file that the second argument names, or of standard input.
-fn check_as_told<R: Print + Eprint + Input + Env + Files>(rt: &R) {
-    if !is_given(rt, 2) {
-        let mut input = rt.reader();
-        check(rt, &mut input);
-        return;
-    }
-    if let Some(file) = named_file(rt) {
-        let mut file = file;
-        check(rt, &mut file);
-    }
-}
-
-// The charges by the file that the second argument names.
-fn charges_as_told<R: Print + Eprint + Input + Env + Files>(rt: &R) {
-    if !is_given(rt, 2) {
-        usage(rt);
-        return;
-    }
-    if let Some(file) = named_file(rt) {
-        let mut file = file;
-        charges(rt, &mut file);
-    }
-}
-
 fn main(rt: HostRuntime) {
-    let mut word = [0u8; 16];
-    let Ok(length) = rt.arg(1, &mut word) else {
-        usage(&rt);
-        return;
-    };
-    if is_given(&rt, 3) {
-        usage(&rt);
-        return;
+    if run(&rt).is_err() {
+        let _ = rt.eprint("error the input cannot be read\n");
     }
-    if same_bytes(&word[..length], b"check") {
-        check_as_told(&rt);
-        return;
-    }
-    if same_bytes(&word[..length], b"convert") {
-        convert_as_told(&rt);
-        return;
-    }
-    if same_bytes(&word[..length], b"charges") {
-        charges_as_told(&rt);
-        return;
-    }
-    usage(&rt);
 }

@@ -24,28 +24,39 @@ pub record Rest (words : List ℕ) (from k word : ℕ) : Type 0 where
 pub on_mask : (j k : ℕ) → k < 64 → on ((2 ^ 64 - 1) * 2 ^ j % 2 ^ 64) k ≡ leb j k
 on_mask j k h = ap (λ (d : ℕ). eqb d 1) (bit_mod 64 ((2 ^ 64 - 1) * 2 ^ j) k h) ∙ on_ones 64 j k h
 
+-- No number from `from` on is in a word before k, and the mask has the places of word k from `from` on.
+pub record Masked (words : List ℕ) (from k mask : ℕ) : Type 0 where
+  pub reached : from < 64 * k + 64
+  pub passed : (z : ℕ) → from ≤ z → z < 64 * k → has words z ≡ false
+  pub kept : (z : ℕ) → z / 64 ≡ k → from ≤ z → on mask (z % 64) ≡ true
+  pub dropped : (z : ℕ) → z / 64 ≡ k → z < from → on mask (z % 64) ≡ false
+
+-- all 64 digits
+on_all : (k : ℕ) → k < 64 → on (2 ^ 64 - 1) k ≡ true
+on_all k h = ap (λ (n : ℕ). on n k) (omega arith) ∙ on_mask 0 k h ∙ le-leb 0 k (omega arith)
+
 module _ (words : List ℕ) (from : ℕ) where
-  pub rest_start : Rest words from (from / 64) (bit_and (get_or words (from / 64) 0) ((2 ^ 64 - 1) * 2 ^ (from % 64) % 2 ^ 64))
-  rest_start =
-      let word = get_or words (from / 64) 0 in
-      let mask = (2 ^ 64 - 1) * 2 ^ (from % 64) % 2 ^ 64 in
-      record {
-        reached = omega arith;
-        passed = λ z h l. absurd (omega arith);
-        left = λ z e h. cc (
-          on_and word mask (z % 64),
-          on_mask (from % 64) (z % 64) (omega arith),
-          le-leb (from % 64) (z % 64) (omega arith),
-          has_word words (from / 64) z e,
-          and-true (on word (z % 64)),
-        );
-        dropped = λ z e h. cc (
-          on_and word mask (z % 64),
-          on_mask (from % 64) (z % 64) (omega arith),
-          lt-leb (from % 64) (z % 64) (omega arith),
-          and-false (on word (z % 64)),
-        );
-      }
+  pub masked_start : Masked words from (from / 64) ((2 ^ 64 - 1) * 2 ^ (from % 64) % 2 ^ 64)
+  masked_start = record {
+    reached = omega arith;
+    passed = λ z h l. absurd (omega arith);
+    kept = λ z e h. on_mask (from % 64) (z % 64) (omega arith) ∙ le-leb (from % 64) (z % 64) (omega arith);
+    dropped = λ z e h. on_mask (from % 64) (z % 64) (omega arith) ∙ lt-leb (from % 64) (z % 64) (omega arith);
+  }
+
+  -- what is left of word k
+  pub masked_rest : (k mask : ℕ) → Masked words from k mask → Rest words from k (bit_and (get_or words k 0) mask)
+  masked_rest k mask M = record {
+    reached = M.reached;
+    passed = M.passed;
+    left = λ z e h. cc (
+      on_and (get_or words k 0) mask (z % 64),
+      M.kept z e h,
+      has_word words k z e,
+      and-true (on (get_or words k 0) (z % 64)),
+    );
+    dropped = λ z e h. cc (on_and (get_or words k 0) mask (z % 64), M.dropped z e h, and-false (on (get_or words k 0) (z % 64)));
+  }
 
   -- a word that has none left
   pub rest_passed : (k word : ℕ) → word ≡ 0 → Rest words from k word → (z : ℕ) → from ≤ z → z < 64 * (k + 1) → has words z ≡ false
@@ -57,12 +68,12 @@ module _ (words : List ℕ) (from : ℕ) where
         ∙ ap (λ (d : ℕ). eqb d 1) (bit_zero (z % 64))
   ]
 
-  pub rest_turn : (k word : ℕ) → word ≡ 0 → Rest words from k word → Rest words from (k + 1) (get_or words (k + 1) 0)
-  rest_turn k word e s = record {
+  pub masked_turn : (k word : ℕ) → word ≡ 0 → Rest words from k word → Masked words from (k + 1) (2 ^ 64 - 1)
+  masked_turn k word e s = record {
     reached = omega (arith, s.reached);
     passed = rest_passed k word e s;
-    left = λ z e h. sym (has_word words (k + 1) z e);
-    dropped = λ z e h. absurd (omega (arith, s.reached));
+    kept = λ z f h. on_all (z % 64) (omega arith);
+    dropped = λ z f h. absurd (omega (arith, s.reached));
   }
 
   -- a word that has some, t the lowest

@@ -11,7 +11,9 @@ use Rattle.ring.specs.declared.fates.Fate.TheVariants.{Served}
 use Rattle.ring.specs.Fates.{fate_number}
 use Rattle.stored.specs.declared.forms.Form.{Form}
 use Rattle.stored.specs.declared.forms.Form.TheVariants.{New}
-use Rattle.stored.specs.Forms.{state_number, fields_bytes, marks_bytes, record_bytes}
+use Rattle.book.specs.declared.books.Book.{Book}
+use Rattle.book.specs.Books.{records_of}
+use Rattle.stored.specs.Forms.{form_mark, state_number, fields_bytes, marks_bytes, record_bytes, header_bytes}
 use Rattle.ring.specs.Buffers.{written}
 use Rattle.stored.specs.Blocks.{word, weighted, check_of, numbered, block_of}
 use Rattle.stored.specs.Internal.Handing.{sealed}
@@ -129,20 +131,22 @@ record_steps form circuit at l₀ l₁ l₂ h e₁ e₂ =
     ∙ ap (λ (l : List ℕ). written l (at + 8) (marks_bytes form circuit)) e₁
     ∙ written_twice l₀ at (fields_bytes circuit) (marks_bytes form circuit) h
 
-pub header_steps : (n w grants count mark : ℕ) (l₀ l₁ l₂ l₃ l₄ l₅ l₆ l₇ : List ℕ) → length l₀ ≡ 512 → l₁ ≡ replicate (length l₀) 0
-    → l₂ ≡ written l₁ 0 (word n) → l₃ ≡ written l₂ 2 (word w) → l₄ ≡ written l₃ 4 (word grants) → l₅ ≡ written l₄ 6 (word count)
-    → l₆ ≡ written l₅ 8 (word mark) → l₇ ≡ sealed 0 l₆
-    → l₇ ≡ block_of 0 (word n ++ (word w ++ (word grants ++ (word count ++ word mark))))
-header_steps n w grants count mark l₀ l₁ l₂ l₃ l₄ l₅ l₆ l₇ h e₁ e₂ e₃ e₄ e₅ e₆ e₇ =
+pub header_steps : (form : Form) (b : Book) (count mark : ℕ) (l₀ l₁ l₂ l₃ l₄ l₅ l₆ l₇ : List ℕ) → length l₀ ≡ 512 → l₁ ≡ replicate (length l₀) 0
+    → count ≡ length (records_of b) → mark ≡ form_mark form
+    → l₂ ≡ written l₁ 0 (word b.n) → l₃ ≡ written l₂ 2 (word b.w) → l₄ ≡ written l₃ 4 (word b.grants) → l₅ ≡ written l₄ 6 (word count)
+    → l₆ ≡ written l₅ 8 (word mark) → l₇ ≡ sealed 0 l₆ → l₇ ≡ block_of 0 (header_bytes form b)
+header_steps form b count mark l₀ l₁ l₂ l₃ l₄ l₅ l₆ l₇ h e₁ c m e₂ e₃ e₄ e₅ e₆ e₇ =
     let k₁ : l₁ ≡ pad [] = e₁ ∙ ap (λ (j : ℕ). replicate j 0) h ∙ sym pad_none in
-    let k₂ : l₂ ≡ pad (word n) = e₂ ∙ ap (λ (l : List ℕ). written l 0 (word n)) k₁ ∙ pad_written [] (word n) 0 refl (omega arith) in
-    let k₃ : l₃ ≡ pad (word n ++ word w) = e₃ ∙ ap (λ (l : List ℕ). written l 2 (word w)) k₂
-    ∙ pad_written (word n) (word w) 2 refl (omega arith) in
-    let k₄ : l₄ ≡ pad (word n ++ word w ++ word grants) = e₄ ∙ ap (λ (l : List ℕ). written l 4 (word grants)) k₃
-    ∙ pad_written (word n ++ word w) (word grants) 4 refl (omega arith) in
-    let k₅ : l₅ ≡ pad (word n ++ word w ++ word grants ++ word count) = e₅ ∙ ap (λ (l : List ℕ). written l 6 (word count)) k₄
-    ∙ pad_written (word n ++ word w ++ word grants) (word count) 6 refl (omega arith) in
-    let k₆ : l₆ ≡ pad (word n ++ word w ++ word grants ++ word count ++ word mark) = e₆
+    let k₂ : l₂ ≡ pad (word b.n) = e₂ ∙ ap (λ (l : List ℕ). written l 0 (word b.n)) k₁ ∙ pad_written [] (word b.n) 0 refl (omega arith) in
+    let k₃ : l₃ ≡ pad (word b.n ++ word b.w) = e₃ ∙ ap (λ (l : List ℕ). written l 2 (word b.w)) k₂
+    ∙ pad_written (word b.n) (word b.w) 2 refl (omega arith) in
+    let k₄ : l₄ ≡ pad (word b.n ++ word b.w ++ word b.grants) = e₄ ∙ ap (λ (l : List ℕ). written l 4 (word b.grants)) k₃
+    ∙ pad_written (word b.n ++ word b.w) (word b.grants) 4 refl (omega arith) in
+    let k₅ : l₅ ≡ pad (word b.n ++ word b.w ++ word b.grants ++ word count) = e₅ ∙ ap (λ (l : List ℕ). written l 6 (word count)) k₄
+    ∙ pad_written (word b.n ++ word b.w ++ word b.grants) (word count) 6 refl (omega arith) in
+    let k₆ : l₆ ≡ pad (word b.n ++ word b.w ++ word b.grants ++ word count ++ word mark) = e₆
     ∙ ap (λ (l : List ℕ). written l 8 (word mark)) k₅
-    ∙ pad_written (word n ++ word w ++ word grants ++ word count) (word mark) 8 refl (omega arith) in
-    e₇ ∙ ap (sealed 0) k₆ ∙ sealed_pad 0 (word n ++ word w ++ word grants ++ word count ++ word mark) (omega arith)
+    ∙ pad_written (word b.n ++ word b.w ++ word b.grants ++ word count) (word mark) 8 refl (omega arith) in
+    e₇ ∙ ap (sealed 0) k₆ ∙ sealed_pad 0 (word b.n ++ word b.w ++ word b.grants ++ word count ++ word mark) (omega arith)
+    ∙ ap (λ (x : ℕ). block_of 0 (word b.n ++ word b.w ++ word b.grants ++ word x ++ word mark)) c
+    ∙ ap (λ (x : ℕ). block_of 0 (word b.n ++ word b.w ++ word b.grants ++ word (length (records_of b)) ++ word x)) m

@@ -1,4 +1,5 @@
 -- A stored form with one byte changed is refused by 19.
+use Rattle.ring.specs.Refusals.{Verdict}
 use Prim.Native.Nat.{ℕ, zero, suc, ◌+◌, ◌*◌, ◌/◌, ◌%◌, ◌≤◌, ◌<◌}
 use mathlib.Core.Path.{◌≡◌, refl, sym, ◌∙◌, ap, subst}
 use mathlib.Core.Bool.{Bool, true, false, ◌&&◌}
@@ -10,7 +11,6 @@ use lib.ListN.{length, get_or, take, drop, set, length-set}
 use lib.Seq.{get_or-set_same, get_or-set_other, take-set-lt, take-set-le, drop-set-add, get_or-take, get_or-drop}
 use Rattle.ring.proofs.Cases.{compare, less, not_less}
 use Rattle.book.specs.declared.books.Book.{Book}
-use Rattle.ring.specs.declared.refusals.Verdict.{Verdict}
 use Rattle.book.specs.Books.{records_of, Valid}
 use Rattle.stored.specs.declared.forms.Form.{Form}
 use Rattle.stored.specs.declared.forms.Form.TheVariants.{Old, New}

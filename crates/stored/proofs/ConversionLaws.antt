@@ -1,4 +1,6 @@
 -- Conversions: an old file there and back.
+use Rattle.ring.specs.declared.refusals.Refusal.{Refusal}
+use Rattle.std.specs.Prelude.{Result, Ok, ⊤}
 use mathlib.Core.Path.{◌≡◌, refl, sym, ◌∙◌, ap}
 use mathlib.Core.List.{List, ◌++◌}
 use Prim.Native.Nat.{ℕ, ◌≤◌}
@@ -6,12 +8,9 @@ use native.Mathlib.Omega.{arith}
 use lib.ListN.{length, drop}
 use Rattle.ring.specs.declared.refusals.Refusal.TheVariants.{MarkedConversion}
 use Rattle.stored.specs.declared.forms.Form.TheVariants.{Old, New}
-use Rattle.stored.specs.declared.loads.LoadAnswer.{LoadAnswer}
-use Rattle.stored.specs.declared.loads.LoadAnswer.TheVariants as answer
-use Rattle.stored.specs.declared.loads.Loaded.{Loaded}
 use Rattle.stored.specs.Forms.{stored_form}
 use Rattle.stored.specs.Storing.{length_of}
-use Rattle.stored.specs.Loading.{loaded, loaded_old}
+use Rattle.stored.specs.Loading.{Loaded, loaded, loaded_old}
 use Rattle.stored.specs.Converting.{convert_after, buffer_after, convert_answer, after_convert, back_after, buffer_after_back, back_answer}
 use Rattle.stored.specs.Converting.{after_back}
 use Rattle.stored.specs.Promises.{EveryOldConverts}
@@ -41,8 +40,8 @@ pub every_old_converts : EveryOldConverts
 every_old_converts bytes e =
     let b = (loaded_old bytes).book in
     let is = loads_only_old_forms bytes e in
-    let loads : loaded_old bytes ≡ record { answer = answer.Loaded; book = b } =
-    ap (λ (a : LoadAnswer). record { answer = a; book = b }) e in
+    let loads : loaded_old bytes ≡ record { answer = Ok tt; book = b } =
+    ap (λ (a : Result ⊤ Refusal). record { answer = a; book = b }) e in
     let size : length bytes ≡ length_of Old b = ap length is.form ∙ form_length Old b in
     record {
       book = loads;

@@ -5,12 +5,17 @@ use mathlib.Core.Bool.{Bool, true, false, not, ◌&&◌, ◌||◌, or-false}
 use mathlib.Core.List.{List, [], ◌∷◌, ◌++◌}
 use native.Mathlib.Numerals.{add-one}
 use native.Mathlib.Omega.{arith}
-use borrow.Author.Tests.{ltb-true, leb-true}
+use borrow.Author.Tests.{ltb-true, leb-true, le-leb}
 use lib.Dec.{leb, ltb}
 use lib.ListN.{length, take}
 use lib.Seq.{take-suc, length-take-le}
-use Rattle.ring.proofs.Cases.{yes, no, is, and_true}
-use Rattle.links.specs.Links.{none, FitsSets, Held}
+use Rattle.std.specs.Prelude.{Ok, Err, is_ok}
+use Rattle.ring.specs.declared.refusals.Refusal.{Refusal}
+use Rattle.ring.specs.Refusals.{Verdict}
+use Rattle.ring.specs.Admission.{ring_verdict, ring_answer}
+use Rattle.ring.proofs.AdmissionLaws.{RingLimits, ring_limits, ring_allowed, says_allowed, says_refused, says}
+use Rattle.ring.proofs.Cases.{yes, no, is, and_true, impossible}
+use Rattle.links.specs.Links.{none, FitsSets}
 use Rattle.links.proofs.RowLaws.{Holding, holding_none, holding_more, holding_free}
 use Rattle.book.specs.declared.circuits.Circuit.{Circuit}
 use Rattle.book.specs.declared.books.Book.{Book}
@@ -18,7 +23,7 @@ use Rattle.book.specs.Circuits.{vacant, circuit, some_circuit, ends_of, holds}
 use Rattle.book.specs.Books.{records_of}
 use Rattle.book.specs.Grants.{held_in, held_on_way}
 use Rattle.book.proofs.ConflictLaws.{true_and, conflict_held}
-use Rattle.stored.specs.Validity.{ring_fits, circuit_fits, serial_fits, may_follow, last_serial, circuits_fit, book_fits}
+use Rattle.stored.specs.Validity.{ring_fits, circuit_fits, serial_fits, may_follow, last_serial, circuits_fit}
 use Rattle.stored.specs.Internal.Following.{NextHolds}
 use Rattle.stored.proofs.Joins.{never, contrary}
 use Rattle.stored.proofs.Fitting.{Following, earlier, each_follows, following}
@@ -26,13 +31,36 @@ use Rattle.stored.proofs.Fitting.{Following, earlier, each_follows, following}
 -- ---- one circuit
 
 -- the limits, read back
-pub ring_within : (n w : ℕ) → ring_fits n w ≡ true → (n ≤ 256) × (w ≤ 128)
+fits_limits : (n w : ℕ) → ring_fits n w ≡ true → RingLimits n w
 unfolding ring_fits
-ring_within n w e =
+fits_limits n w e =
     let s = and_true _ _ e in
     let nodes = and_true (leb 3 n) (leb n 256) s.0 in
     let colours = and_true (leb 1 w) (leb w 128) s.1 in
-    (leb-true n 256 nodes.1, leb-true w 128 colours.1)
+    record {
+      nodes_from = leb-true 3 n nodes.0;
+      nodes_to = leb-true n 256 nodes.1;
+      colours_from = leb-true 1 w colours.0;
+      colours_to = leb-true w 128 colours.1;
+    }
+
+limits_fit : (n w : ℕ) → RingLimits n w → ring_fits n w ≡ true
+unfolding ring_fits
+limits_fit n w l = cc (le-leb 3 n l.nodes_from, le-leb n 256 l.nodes_to, le-leb 1 w l.colours_from, le-leb w 128 l.colours_to)
+
+-- they are those that the ring's constructor tests
+pub ring_made : (n w : ℕ) → is_ok (ring_answer n w) ≡ ring_fits n w
+unfolding ring_answer
+ring_made n w = elim (says (ring_verdict n w)) [
+  | says_allowed e ↦ rw (e, limits_fit n w (ring_limits n w e)) refl
+  | says_refused r e ↦ rw e (sym (never (ring_fits n w) (λ f. refused r e (ring_allowed n w (fits_limits n w f)))))
+]
+  where
+    refused : (r : Refusal) → ring_verdict n w ≡ Err r → ring_verdict n w ≡ Ok tt → ⊥
+    refused r e f = let both : ◌≡◌ {A = Verdict} (Err r) (Ok tt) = sym e ∙ f in impossible (cc)
+
+pub ring_within : (n w : ℕ) → ring_fits n w ≡ true → (n ≤ 256) × (w ≤ 128)
+ring_within n w e = let l = fits_limits n w e in (l.nodes_to, l.colours_to)
 
 pub fits_placed : (n w : ℕ) (c : Circuit) (serial : Bool) → n ≤ 256 → w ≤ 128 → (circuit_fits n w c && serial) ≡ true
     → FitsSets (ends_of c) c.colour
@@ -54,13 +82,6 @@ fits_node n w c serial e =
     let t = and_true (nodes && numbers) serial e in
     let f = and_true nodes numbers t.0 in
     ltb-true c.b n (and_true (ltb c.a c.b) (ltb c.b n) f.0).1
-
-pub follows_not : (rows : List (List ℕ)) (fits : Bool) (c : Circuit) → fits ≡ false → NextHolds rows rows fits c false
-follows_not rows fits c e = record { refused = λ f. refl; holding = λ f. contrary f e }
-
-pub follows_so : (rows after : List (List ℕ)) (fits : Bool) (c : Circuit) (follows : Bool) → fits ≡ true
-    → Held rows after c.way (ends_of c) c.colour follows → NextHolds rows after fits c follows
-follows_so rows after fits c follows e h = record { refused = λ f. contrary e f; holding = λ f. h }
 
 -- ---- one circuit more
 
@@ -154,13 +175,3 @@ module _ (b : Book) (rows after : List (List ℕ)) (last i : ℕ) (c : Circuit) 
 
   pub walk_stop : follows ≡ false → false ≡ circuits_fit b (length cs)
   walk_stop e = sym (never (circuits_fit b (length cs)) (λ f. contrary (found_here ∙ each_follows b (length cs) f i h) e))
-
--- ---- the whole book
-
-pub no_ring : (b : Book) → ring_fits b.n b.w ≡ false → false ≡ book_fits b
-unfolding book_fits
-no_ring b e = cc
-
-pub circuits_left : (b : Book) → ring_fits b.n b.w ≡ true → circuits_fit b (length (records_of b)) ≡ book_fits b
-unfolding book_fits
-circuits_left b e = cc

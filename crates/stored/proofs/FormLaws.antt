@@ -3,19 +3,16 @@ use Prim.Native.Nat.{ℕ, suc, ◌+◌, ◌*◌, ◌≤◌, ◌<◌}
 use mathlib.Core.Path.{◌≡◌, refl}
 use native.Mathlib.Omega.{arith}
 use lib.ListN.{length}
+use Rattle.std.specs.Int.{div_ceil}
 use Rattle.book.specs.declared.circuits.Circuit.{Circuit}
 use Rattle.stored.specs.declared.forms.Form.{Form}
 use Rattle.stored.specs.declared.forms.Form.TheVariants.{Old, New}
-use Rattle.stored.specs.Forms.{record_size, block_records, longest, marks_bytes, record_bytes, first_record, later_blocks, block_count}
+use Rattle.stored.specs.Forms.{record_size, block_records, longest, marks_bytes, record_bytes, first_record, later_blocks, stored_length}
 use Rattle.stored.specs.Reading.{record_place}
 
 pub record_length : (form : Form) (c : Circuit) → length (record_bytes form c) ≡ record_size form
 record_length Old c = refl
 record_length New c = refl
-
-pub size_fields : (form : Form) → 8 ≤ record_size form
-size_fields Old = omega arith
-size_fields New = omega arith
 
 pub marks_length : (form : Form) (c : Circuit) → record_size form ≡ 8 + length (marks_bytes form c)
 marks_length Old c = refl
@@ -41,14 +38,6 @@ pub place_fits : (form : Form) (i : ℕ) → i < block_records form → record_p
 unfolding record_place
 place_fits Old i h = omega arith
 place_fits New i h = omega arith
-
-pub share_some : (form : Form) → 1 ≤ block_records form
-share_some Old = omega arith
-share_some New = omega arith
-
-pub share_small : (form : Form) → block_records form ≤ 63
-share_small Old = omega arith
-share_small New = omega arith
 
 -- each later block takes up where the one before it was full
 pub first_none : (form : Form) → first_record form 0 ≡ 0
@@ -76,11 +65,20 @@ unfolding first_record later_blocks
 later_all Old count = omega arith
 later_all New count = omega arith
 
-pub later_few : (form : Form) (count : ℕ) → count ≤ 512 → 512 * block_count form count ≤ longest form
+pub later_few : (form : Form) (count : ℕ) → count ≤ 512 → stored_length form count ≤ longest form
 unfolding later_blocks
 later_few Old count h = omega arith
 later_few New count h = omega arith
 
+-- every begun group has a block
+pub later_groups : (form : Form) (count : ℕ) → div_ceil count (block_records form) ≡ later_blocks form count
+unfolding later_blocks
+later_groups Old count = omega arith
+later_groups New count = omega arith
+
 pub longest_small : (form : Form) → longest form ≤ 7168
 longest_small Old = omega arith
 longest_small New = omega arith
+
+pub length_small : (form : Form) (count : ℕ) → count ≤ 512 → stored_length form count ≤ 7168
+length_small form count h = omega (arith, later_few form count h, longest_small form)

@@ -1,11 +1,11 @@
 -- Laws on lists: rows of zeros, bytes put in their place.
-use Prim.Native.Nat.{ℕ, zero, suc, ◌+◌, ◌-◌, ◌≤◌, ◌<◌}
+use Prim.Native.Nat.{ℕ, zero, suc, ◌+◌, ◌-◌, ◌≤◌}
 use mathlib.Core.Path.{◌≡◌, refl, sym, ◌∙◌, ap}
-use mathlib.Core.List.{List, [], ◌∷◌, ◌++◌, append_assoc}
+use mathlib.Core.List.{List, [], ◌++◌, append_assoc}
 use native.Mathlib.Omega.{arith}
-use native.Mathlib.Numerals.{add-one}
-use lib.ListN.{length, drop, set, replicate, length-append, length-replicate, replicate-append-replicate}
-use lib.Seq.{take_at, drop-append-add, sets-eq}
+use borrow.Rule.Slice.PartMut.{put_mid}
+use lib.ListN.{length, drop, replicate, length-append, length-replicate, replicate-append-replicate}
+use lib.Seq.{take_at, drop-append-add, drop-drop}
 use Rattle.ring.specs.Buffers.{written}
 
 pub drop_zeros : (m k : ℕ) → ◌≡◌ {A = List ℕ} (drop k (replicate m 0)) (replicate (m - k) 0)
@@ -19,12 +19,10 @@ drop_zeros (suc m) (suc k) =
     let e : m - k ≡ suc m - suc k = omega arith in
     drop_zeros m k ∙ ap (λ (j : ℕ). replicate j 0) e
 
--- bytes put in their place
-pub set_word : (l : List ℕ) (at x y : ℕ) → at + 1 < length l → set (set l at x) (at + 1) y ≡ written l at (x ∷ y ∷ [])
+-- bytes put in the place of as many
+pub part_written : (l v : List ℕ) (at n : ℕ) → n ≡ length v → put_mid at n l v ≡ written l at v
 unfolding written
-set_word l at x y h =
-    let e : at + 1 ≡ suc at = add-one at in
-    ap (λ (k : ℕ). set (set l at x) k y) e ∙ sets-eq (x ∷ y ∷ []) l at (omega arith)
+part_written l v at n e = rw (e, drop-drop) (simp append_assoc)
 
 -- 512 bytes that begin with some, and are zero behind them
 unfoldable pub pad : List ℕ → List ℕ

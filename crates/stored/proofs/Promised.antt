@@ -1,4 +1,6 @@
 -- A stored book reads back as itself, and nothing else loads.
+use Rattle.ring.specs.Refusals.{Verdict}
+use Rattle.std.specs.Prelude.{Ok, Err}
 use Prim.Native.Nat.{ℕ, ◌+◌, ◌-◌, ◌*◌, ◌/◌, ◌%◌, ◌≤◌, ◌<◌, min}
 use mathlib.Core.Path.{◌≡◌, refl, sym, ◌∙◌, ap, subst}
 use mathlib.Core.Bool.{Bool, true, false, not, cond, ◌&&◌, ◌||◌}
@@ -8,8 +10,6 @@ use lib.Dec.{eqb, ltb}
 use borrow.Author.Tests.{eq-eqb, ne_eqb, le-ltb, ltb-false}
 use lib.ListN.{length}
 use Rattle.ring.specs.declared.refusals.Refusal.TheVariants.{RevisionLow}
-use Rattle.ring.specs.declared.refusals.Verdict.{Verdict}
-use Rattle.ring.specs.declared.refusals.Verdict.TheVariants as verdict
 use Rattle.ring.specs.Buffers.{same_bytes}
 use Rattle.ring.proofs.FateLaws.{number_within}
 use Rattle.ring.proofs.BufferLaws.{same_refl, same_equal}
@@ -23,20 +23,17 @@ use Rattle.book.proofs.Forms.{records_form}
 use Rattle.book.proofs.Marks.{none_marked}
 use Rattle.stored.specs.declared.forms.Form.{Form}
 use Rattle.stored.specs.declared.forms.Form.TheVariants.{Old, New}
-use Rattle.stored.specs.declared.loads.LoadAnswer.TheVariants as answer
-use Rattle.stored.specs.declared.loads.Loaded.{Loaded}
 use Rattle.stored.specs.Blocks.{word, word_at}
 use Rattle.stored.specs.Forms.{longest, form_mark, block_count, stored_form}
 use Rattle.stored.specs.Storing.{length_of}
 use Rattle.stored.specs.Reading.{part_of, blocks_right, circuits_in, book_in}
 use Rattle.stored.specs.Validity.{book_fits}
-use Rattle.stored.specs.Loading.{length_wrong, form_right, form_verdict, load_unless, loaded, loaded_old}
-use Rattle.stored.specs.Internal.Recent.{recent_of}
+use Rattle.stored.specs.Loading.{Loaded, length_wrong, form_right, form_verdict, load_unless, loaded, loaded_old}
 use Rattle.stored.specs.Promises.{ReadsBack, OldReadsBack, IsForm, LoadsOnlyForms, IsOldForm, LoadsOnlyOldForms, OneForm}
 use Rattle.stored.proofs.FormLaws.{later_few, longest_small}
 use Rattle.stored.proofs.StoreLaws.{form_length}
 use Rattle.stored.proofs.ReadLaws.{circuits_few, read_unmarked}
-use Rattle.stored.proofs.LoadLaws.{form_good, form_passed, load_refused, load_allowed, recent_low, recent_kept}
+use Rattle.stored.proofs.LoadLaws.{form_good, form_passed, load_refused, load_allowed, recent_of, recent_low, recent_kept}
 use Rattle.stored.proofs.BlockReading.{Kept, Fields}
 use Rattle.stored.proofs.RoundTrip.{form_right_lem, header_cells, header_word, book_back}
 use Rattle.stored.proofs.Fitting.{valid_fits, fits_valid}
@@ -87,7 +84,7 @@ module _ (form : Form) (b : Book) (v : Valid b) (kept : (i : ℕ) → i < length
       ap (λ (x : Book). book_fits x && same_bytes (stored_form form b) (stored_form form x)) back
       ∙ true_and (book_fits b) (same_bytes (stored_form form b) (stored_form form b)) (valid_fits b v) (same_refl (stored_form form b))
 
-  pub passes : form_verdict form (stored_form form b) ≡ verdict.Allowed
+  pub passes : form_verdict form (stored_form form b) ≡ Ok tt
   passes = form_good form (stored_form form b) (right_length form b v.circuits.room) (right_blocks form b v.circuits.room) right_form
 
 crews_kept : (b : Book) → Valid b → (i : ℕ) → i < length (records_of b) → Kept New (circuit (records_of b) i)
@@ -103,7 +100,7 @@ pub reads_back : ReadsBack
 reads_back b v lowest h = stored_loads b v lowest ∙ sym (recent_kept b lowest h)
 
 -- a file of a valid book that loads is recent enough, and gives that book
-pub loads_again : (b : Book) → Valid b → (lowest : ℕ) → (loaded lowest (stored_form New b)).answer ≡ answer.Loaded
+pub loads_again : (b : Book) → Valid b → (lowest : ℕ) → (loaded lowest (stored_form New b)).answer ≡ Ok tt
     → (lowest ≤ revision b) × ((loaded lowest (stored_form New b)).book ≡ b)
 loads_again b v lowest a = elim (compare (revision b) lowest) [
   | less h e ↦
@@ -116,7 +113,7 @@ pub old_reads_back : OldReadsBack
 unfolding loaded_old
 old_reads_back b v all =
     ap (λ (t : Verdict). load_unless Old t (stored_form Old b)) (passes Old b v (none_marked b all))
-    ∙ ap (λ (x : Book). record { answer = answer.Loaded; book = x }) (back Old b v (none_marked b all))
+    ∙ ap (λ (x : Book). record { answer = Ok tt; book = x }) (back Old b v (none_marked b all))
 
 -- what loads is a stored form
 module _ (form : Form) (bytes : List ℕ) where
@@ -151,7 +148,7 @@ module _ (form : Form) (bytes : List ℕ) where
       in
       omega arith
 
-  pub form_told : form_verdict form bytes ≡ verdict.Allowed → Valid book × (bytes ≡ stored_form form book)
+  pub form_told : form_verdict form bytes ≡ Ok tt → Valid book × (bytes ≡ stored_form form book)
   unfolding form_right
   form_told e =
       let s = and_true (book_fits book) (same_bytes bytes (stored_form form book)) (form_passed form bytes e) in
@@ -162,28 +159,28 @@ pub loads_only_forms : LoadsOnlyForms
 loads_only_forms lowest bytes = go (form_verdict New bytes) refl
   where
     recent : (b : Book) → Valid b → bytes ≡ stored_form New b → (t : Bool) → ltb (revision b) lowest ≡ t
-        → (loads : Loaded) → loads ≡ cond t (record { answer = answer.Refused RevisionLow; book = book_of 0 0 0 [] })
-        (record { answer = answer.Loaded; book = b })
-        → loads.answer ≡ answer.Loaded → IsForm lowest bytes loads.book
+        → (loads : Loaded) → loads ≡ cond t (record { answer = Err RevisionLow; book = book_of 0 0 0 [] })
+        (record { answer = Ok tt; book = b })
+        → loads.answer ≡ Ok tt → IsForm lowest bytes loads.book
     recent b v f true e loads l a = let told = sym (ap (λ (x : Loaded). x.answer) l) ∙ a in impossible (cc)
     recent b v f false e loads l a =
         subst (λ (x : Loaded). IsForm lowest bytes x.book) (sym l) (record { valid = v; recent = ltb-false _ _ e; form = f })
 
-    go : (t : Verdict) → form_verdict New bytes ≡ t → (loaded lowest bytes).answer ≡ answer.Loaded → IsForm lowest bytes
+    go : (t : Verdict) → form_verdict New bytes ≡ t → (loaded lowest bytes).answer ≡ Ok tt → IsForm lowest bytes
         (loaded lowest bytes).book
-    go verdict.Allowed e a =
+    go (Ok tt) e a =
         let told = form_told New bytes e in
         recent (book_in New bytes) told.0 told.1 _ refl (loaded lowest bytes) (load_allowed lowest bytes e) a
-    go (verdict.Refused r) e a = let told = sym (ap (λ (x : Loaded). x.answer) (load_refused lowest bytes e)) ∙ a in impossible (cc)
+    go (Err r) e a = let told = sym (ap (λ (x : Loaded). x.answer) (load_refused lowest bytes e)) ∙ a in impossible (cc)
 
 pub loads_only_old_forms : LoadsOnlyOldForms
 unfolding loaded_old
 loads_only_old_forms bytes = go (form_verdict Old bytes) (form_told Old bytes)
   where
-    go : (t : Verdict) → (t ≡ verdict.Allowed → Valid (book_in Old bytes) × (bytes ≡ stored_form Old (book_in Old bytes)))
-        → (load_unless Old t bytes).answer ≡ answer.Loaded → IsOldForm bytes (load_unless Old t bytes).book
-    go verdict.Allowed told a = let t = told refl in record { valid = t.0; unmarked = read_unmarked bytes; form = t.1 }
-    go (verdict.Refused r) told a = impossible (cc)
+    go : (t : Verdict) → (t ≡ Ok tt → Valid (book_in Old bytes) × (bytes ≡ stored_form Old (book_in Old bytes)))
+        → (load_unless Old t bytes).answer ≡ Ok tt → IsOldForm bytes (load_unless Old t bytes).book
+    go (Ok tt) told a = let t = told refl in record { valid = t.0; unmarked = read_unmarked bytes; form = t.1 }
+    go (Err r) told a = impossible (cc)
 
 -- the number behind the count tells the form
 marked : (form : Form) (b : Book) → word_at (part_of (stored_form form b) 0) 8 ≡ form_mark form

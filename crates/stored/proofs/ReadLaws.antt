@@ -1,18 +1,17 @@
 -- Reading circuits, block by block, into a book.
 use Prim.Native.Nat.{ℕ, zero, suc, ◌+◌, ◌-◌, ◌*◌, ◌/◌, ◌≤◌, ◌<◌, min}
 use mathlib.Core.Path.{◌≡◌, refl, sym, ◌∙◌, ap}
-use mathlib.Core.Bool.{Bool, false, ◌&&◌, ◌||◌}
+use mathlib.Core.Bool.{Bool, true, false, ◌&&◌, ◌||◌}
 use mathlib.Core.List.{List, [], ◌∷◌, ◌++◌, append-nil, append_assoc}
 use native.Mathlib.Omega.{arith}
 use native.Mathlib.Numerals.{add-one}
-use lib.Dec.{eqb}
+use Rattle.ring.proofs.Cases.{compare, less, not_less}
 use lib.ListN.{length, take, drop, set, replicate, length-append}
 use lib.Seq.{set-append_seam, append_snoc}
 use Rattle.ring.specs.declared.fates.Fate.{Fate}
 use Rattle.ring.specs.declared.fates.Fate.TheVariants.{Blocked, Served}
 use Rattle.ring.specs.Fates.{fate_of}
-use Rattle.book.specs.declared.circuits.RecordState.{RecordState}
-use Rattle.book.specs.declared.circuits.RecordState.TheVariants.{Live, Pending}
+use Rattle.book.specs.declared.circuits.RecordState.TheVariants.{Live}
 use Rattle.book.specs.declared.circuits.Circuit.{Circuit}
 use Rattle.book.specs.declared.books.Book.{Book}
 use Rattle.book.specs.Circuits.{vacant, desk, is_marked, some_circuit}
@@ -21,9 +20,9 @@ use Rattle.book.proofs.Forms.{records_form}
 use Rattle.book.proofs.Marks.{none_append}
 use Rattle.stored.specs.declared.forms.Form.{Form}
 use Rattle.stored.specs.declared.forms.Form.TheVariants.{Old}
-use Rattle.stored.specs.Blocks.{word_at, check_of}
+use Rattle.stored.specs.Blocks.{word_at}
 use Rattle.stored.specs.Forms.{block_records}
-use Rattle.stored.specs.Reading.{part_of, block_right, blocks_right, crew_at, state_of, state_at, circuit_from, circuit_at, record_place}
+use Rattle.stored.specs.Reading.{part_of, block_right, blocks_right, circuit_from, circuit_at, record_place}
 use Rattle.stored.specs.Reading.{records_in}
 use Rattle.stored.specs.Reading.{circuits_in, book_in}
 use Rattle.stored.specs.Internal.Handing.{extended}
@@ -34,42 +33,23 @@ part_is bytes k =
     let e : k * 512 + 512 - k * 512 ≡ 512 = omega arith in
     ap (λ (n : ℕ). take n (drop (k * 512) bytes)) e
 
-pub right_steps : (block : List ℕ) (number x y z : ℕ) (r : Bool) → x ≡ word_at block 508 → y ≡ word_at block 510 → z ≡ check_of block
-    → r ≡ (eqb x number && eqb y z) → r ≡ block_right number block
-unfolding block_right
-right_steps block number x y z r e f g h =
-    h
-    ∙ ap (λ (k : ℕ). eqb k number && eqb y z) e
-    ∙ ap (λ (k : ℕ). eqb (word_at block 508) number && eqb k z) f
-    ∙ ap (λ (k : ℕ). eqb (word_at block 508) number && eqb (word_at block 510) k) g
+-- one block more is right, or all that follow are for nothing
+pub right_next : (bytes part : List ℕ) (k : ℕ) → part ≡ part_of bytes k → blocks_right bytes k ≡ true → block_right k part ≡ true
+    → blocks_right bytes (k + 1) ≡ true
+right_next bytes part k p e r = rw (add-one, e, sym p) r
 
-pub right_next : (bytes part : List ℕ) (k number : ℕ) (so_far one all : Bool) → so_far ≡ blocks_right bytes k → part ≡ part_of bytes k
-    → number ≡ k → one ≡ block_right number part → all ≡ (so_far && one) → all ≡ blocks_right bytes (k + 1)
-right_next bytes part k number so_far one all e p n h r =
-    r
-    ∙ ap (λ (t : Bool). t && one) e
-    ∙ ap (λ (t : Bool). blocks_right bytes k && t) (h ∙ ap (λ (l : List ℕ). block_right number l) p
-    ∙ ap (λ (j : ℕ). block_right j (part_of bytes k)) n)
-    ∙ ap (blocks_right bytes) (sym (add-one k))
-
-pub state_pending : (number : ℕ) → (number ≡ 0 → ⊥) → Pending ≡ state_of number
-state_pending zero h = absurd (h refl)
-state_pending (suc k) h = refl
-
-pub circuit_steps : (form : Form) (block : List ℕ) (at serial a b word crew : ℕ) (fate : Fate) (state : RecordState)
-    → serial ≡ word_at block at → a ≡ word_at block (at + 2) → b ≡ word_at block (at + 4) → word ≡ word_at block (at + 6) → fate ≡ fate_of word
-    → crew ≡ crew_at form block at → state ≡ state_at form block at
-    → circuit_from serial a b fate crew state ≡ circuit_at form block at
-unfolding circuit_at
-circuit_steps form block at serial a b word crew fate state e₁ e₂ e₃ e₄ f e₅ e₆ =
-    ap (λ (x : Fate). circuit_from serial a b x crew state) (f ∙ ap fate_of e₄)
-    ∙ ap (λ (x : ℕ). circuit_from x a b (fate_of (word_at block (at + 6))) crew state) e₁
-    ∙ ap (λ (x : ℕ). circuit_from (word_at block at) x b (fate_of (word_at block (at + 6))) crew state) e₂
-    ∙ ap (λ (x : ℕ). circuit_from (word_at block at) (word_at block (at + 2)) x (fate_of (word_at block (at + 6))) crew state) e₃
-    ∙ ap (λ (x : ℕ). circuit_from (word_at block at) (word_at block (at + 2)) (word_at block (at + 4)) (fate_of (word_at block
-    (at + 6))) x state) e₅
-    ∙ ap (circuit_from (word_at block at) (word_at block (at + 2)) (word_at block (at + 4)) (fate_of (word_at block (at + 6)))
-    (crew_at form block at)) e₆
+pub wrong_stays : (bytes part : List ℕ) (k n : ℕ) → k < n → part ≡ part_of bytes k → block_right k part ≡ false → blocks_right bytes n ≡ false
+wrong_stays bytes part k zero h p r = absurd (omega arith)
+wrong_stays bytes part k (suc n) h p r = elim (compare k n) [
+  | less m t ↦ ap (λ (x : Bool). x && block_right n (part_of bytes n)) (wrong_stays bytes part k n m p r)
+  | not_less m t ↦
+      let last : n ≡ k = omega arith in
+      rw (last, sym p, r) (no_more (blocks_right bytes k))
+]
+  where
+    no_more : (t : Bool) → (t && false) ≡ false
+    no_more true = refl
+    no_more false = refl
 
 pub records_in_length : (form : Form) (block : List ℕ) (i : ℕ) → length (records_in form block i) ≡ i
 records_in_length form block zero = refl
@@ -178,13 +158,6 @@ read_next form bytes part live n w g (suc k) b r h e p q =
     ∙ ap (λ (x : Book). extended x (records_in form (part_of bytes (suc k)) (min (block_records form) (live - length (records_of x))))) f
     ∙ ap (λ (cs : List Circuit). book_of n w g (cs ++ records_in form (part_of bytes (suc k)) (min (block_records form) (live - length cs))))
     (records_form n w g (circuits_in form bytes live k))
-
-pub blank_steps : (r : Book) (x y z n w g : ℕ) → r ≡ book_of x y z [] → x ≡ n → y ≡ w → z ≡ g → r ≡ book_of n w g []
-blank_steps r x y z n w g h e f k =
-    h
-    ∙ ap (λ (j : ℕ). book_of j y z []) e
-    ∙ ap (λ (j : ℕ). book_of n j z []) f
-    ∙ ap (λ (j : ℕ). book_of n w j []) k
 
 -- every record that is read from the old form is live and the desk's
 circuit_unmarked : (serial a b : ℕ) (f : Fate) → is_marked (circuit_from serial a b f desk Live) ≡ false

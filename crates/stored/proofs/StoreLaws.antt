@@ -1,4 +1,5 @@
 -- The blocks of a book, one behind the other, as the walk of store leaves them in the buffer.
+use Rattle.std.specs.Prelude.{Result, Ok, Err}
 use Prim.Native.Nat.{ℕ, zero, suc, ◌+◌, ◌-◌, ◌*◌, ◌≤◌, ◌<◌}
 use mathlib.Core.Path.{◌≡◌, refl, sym, ◌∙◌, ap}
 use mathlib.Core.Bool.{Bool, true, false, cond}
@@ -7,7 +8,7 @@ use native.Mathlib.Omega.{arith}
 use native.Mathlib.Numerals.{add-one}
 use borrow.Author.Tests.{lt-ltb, le-ltb}
 use borrow.Rule.Slice.PartMut.{put_mid}
-use lib.ListN.{length, take, drop, length-append, length-take, length-drop}
+use lib.ListN.{length, take, drop, replicate, length-append, length-take, length-drop, length-replicate}
 use lib.Seq.{take_at, drop_at, drop-append-add, drop-drop}
 use Rattle.ring.specs.declared.refusals.Refusal.{Refusal}
 use Rattle.ring.specs.declared.refusals.Refusal.TheVariants.{BufferShort}
@@ -15,9 +16,8 @@ use Rattle.book.specs.declared.books.Book.{Book}
 use Rattle.book.specs.Books.{records_of, has_marked}
 use Rattle.stored.specs.declared.forms.Form.{Form}
 use Rattle.stored.specs.declared.forms.Form.TheVariants.{Old}
-use Rattle.stored.specs.declared.stores.StoreAnswer.TheVariants.{Stored, Refused}
-use Rattle.stored.specs.Blocks.{word, block_of}
-use Rattle.stored.specs.Forms.{form_mark, circuits_of, contents, blocks, block_count, stored_form}
+use Rattle.stored.specs.Blocks.{block_of}
+use Rattle.stored.specs.Forms.{circuits_of, contents, blocks, block_count, stored_form}
 use Rattle.stored.specs.Storing.{length_of, form_answer, after_form}
 use Rattle.stored.proofs.BlockLaws.{block_length}
 use Rattle.stored.proofs.RecordLaws.{records_few, share_few}
@@ -43,14 +43,6 @@ module _ (form : Form) (b : Book) where
   unfolding stored_form
   form_length = blocks_length (block_count form (length (records_of b)))
 
-  -- block 0
-  pub first_block : (count mark : ℕ) (front : List ℕ) → count ≡ length (records_of b) → mark ≡ form_mark form
-      → front ≡ block_of 0 (word b.n ++ (word b.w ++ (word b.grants ++ (word count ++ word mark)))) → front ≡ blocks form b 1
-  first_block count mark front e f h =
-      h
-      ∙ ap (λ (x : ℕ). block_of 0 (word b.n ++ (word b.w ++ (word b.grants ++ (word x ++ word mark))))) e
-      ∙ ap (λ (x : ℕ). block_of 0 (word b.n ++ (word b.w ++ (word b.grants ++ (word (length (records_of b)) ++ word x))))) f
-
   pub started : (front rest : List ℕ) → front ≡ blocks form b 1 → front ++ rest ≡ blocks form b 1 ++ drop 512 (front ++ rest)
   started front rest e = ap (λ (l : List ℕ). l ++ rest) e
       ∙ ap (λ (l : List ℕ). blocks form b 1 ++ l) (sym (drop_at front rest 512 (ap length e ∙ blocks_length 1)))
@@ -75,16 +67,16 @@ module _ (form : Form) (b : Book) where
 
   -- the answers
   pub store_short : (buffer : List ℕ) → length buffer < length_of form b
-      → (Refused BufferShort ≡ form_answer form b buffer) × (buffer ≡ after_form form b buffer)
+      → (Err BufferShort ≡ form_answer form b buffer) × (buffer ≡ after_form form b buffer)
   unfolding form_answer after_form
   store_short buffer h = (
-    sym (ap (λ (t : Bool). cond t (Refused BufferShort) (Stored (length_of form b))) (lt-ltb _ _ h)),
+    sym (ap (λ (t : Bool). cond t (Err BufferShort) (Ok (length_of form b))) (lt-ltb _ _ h)),
     sym (ap (λ (t : Bool). cond t buffer (stored_form form b ++ drop (length_of form b) buffer)) (lt-ltb _ _ h)),
   )
 
-  pub store_answer_lem : (buffer : List ℕ) (n : ℕ) → n ≡ length_of form b → length_of form b ≤ length buffer → Stored n ≡ form_answer form b buffer
+  pub store_answer_lem : (buffer : List ℕ) (n : ℕ) → n ≡ length_of form b → length_of form b ≤ length buffer → Ok n ≡ form_answer form b buffer
   unfolding form_answer
-  store_answer_lem buffer n e h = ap Stored e ∙ sym (ap (λ (t : Bool). cond t (Refused BufferShort) (Stored (length_of form b))) (le-ltb _ _ h))
+  store_answer_lem buffer n e h = ap Ok e ∙ sym (ap (λ (t : Bool). cond t (Err BufferShort) (Ok (length_of form b))) (le-ltb _ _ h))
 
   pub store_done : (buffer old front : List ℕ) (k : ℕ) → k ≡ block_count form (length (records_of b)) → length_of form b ≤ length old
       → length front ≡ 512
@@ -106,26 +98,36 @@ module _ (form : Form) (b : Book) where
 
   -- the front of a buffer that is long enough
   pub store_front : (copy old : List ℕ) (n : ℕ) → n ≡ length_of form b → length_of form b ≤ length old → copy ≡ after_form form b old
-      → take (n - 0) copy ≡ stored_form form b
+      → take n copy ≡ stored_form form b
   store_front copy old n e h g =
-      let m : n - 0 ≡ length_of form b = omega arith in
-      ap (λ (l : List ℕ). take (n - 0) l) (g ∙ store_copied old h)
-      ∙ take_at (stored_form form b) (drop (length_of form b) old) (n - 0) (form_length ∙ sym m)
+      ap (λ (l : List ℕ). take n l) (g ∙ store_copied old h)
+      ∙ take_at (stored_form form b) (drop (length_of form b) old) n (form_length ∙ sym e)
+
+-- a buffer of 7,168 bytes has room for every form
+module _ (form : Form) (b : Book) (small : length_of form b ≤ 7168) where
+  pub form_fits : length_of form b ≤ length (replicate {A = ℕ} 7168 0)
+  form_fits = omega (arith, length-replicate {A = ℕ} 7168 0)
+
+  pub form_given : form_answer form b (replicate 7168 0) ≡ Ok (length_of form b)
+  form_given = sym (store_answer_lem form b (replicate 7168 0) _ refl form_fits)
+
+  pub given_length : (n : ℕ) → form_answer form b (replicate 7168 0) ≡ Ok n → n ≡ length_of form b
+  given_length n e = let same : ◌≡◌ {A = Result ℕ Refusal} (Ok n) (Ok (length_of form b)) = sym e ∙ form_given in cc
 
 -- the old form: refused by the ground of the call where a record is marked, and written where none is
 module _ (r : Refusal) (b : Book) (buffer : List ℕ) where
   pub marked_refused : has_marked b ≡ true
-      → (Refused r ≡ cond (has_marked b) (Refused r) (form_answer Old b buffer))
+      → (Err r ≡ cond (has_marked b) (Err r) (form_answer Old b buffer))
       × (buffer ≡ cond (has_marked b) buffer (after_form Old b buffer))
   marked_refused e = (
-    sym (ap (λ (t : Bool). cond t (Refused r) (form_answer Old b buffer)) e),
+    sym (ap (λ (t : Bool). cond t (Err r) (form_answer Old b buffer)) e),
     sym (ap (λ (t : Bool). cond t buffer (after_form Old b buffer)) e),
   )
 
   pub unmarked_written : has_marked b ≡ false
-      → (form_answer Old b buffer ≡ cond (has_marked b) (Refused r) (form_answer Old b buffer))
+      → (form_answer Old b buffer ≡ cond (has_marked b) (Err r) (form_answer Old b buffer))
       × (after_form Old b buffer ≡ cond (has_marked b) buffer (after_form Old b buffer))
   unmarked_written e = (
-    sym (ap (λ (t : Bool). cond t (Refused r) (form_answer Old b buffer)) e),
+    sym (ap (λ (t : Bool). cond t (Err r) (form_answer Old b buffer)) e),
     sym (ap (λ (t : Bool). cond t buffer (after_form Old b buffer)) e),
   )

@@ -1,12 +1,10 @@
 -- A book kept as bytes between calls, from its opening on.
-use Rattle.std.specs.Prelude.{ℕ, ◌≤◌, ◌≡◌, true, List, drop}
-use Rattle.ring.specs.declared.refusals.Verdict.TheVariants.{Allowed}
+use Rattle.std.specs.Prelude.{ℕ, ◌≤◌, ◌≡◌, true, List, drop, Ok}
 use Rattle.ring.specs.Admission.{ring_verdict}
 use Rattle.book.specs.Books.{opened}
 use Rattle.book.specs.Revisions.{revision, NotShown}
 use Rattle.book.specs.History.{Call, run, history, was_removed, AfterHistory}
 use Rattle.stored.specs.declared.forms.Form.TheVariants.{New}
-use Rattle.stored.specs.declared.loads.LoadAnswer.TheVariants as answer
 use Rattle.stored.specs.Forms.{stored_form}
 use Rattle.stored.specs.Loading.{loaded}
 
@@ -15,18 +13,18 @@ use Rattle.stored.specs.Loading.{loaded}
 pub record StoredAfter (n w : ℕ) (calls : List Call) (bytes : List ℕ) : Type 0 where
   pub form : bytes ≡ stored_form New (run (opened n w).book calls)
   pub loads : (lowest : ℕ) → lowest ≤ revision (run (opened n w).book calls)
-      → loaded lowest bytes ≡ record { answer = answer.Loaded; book = run (opened n w).book calls }
+      → loaded lowest bytes ≡ record { answer = Ok tt; book = run (opened n w).book calls }
   pub after : AfterHistory n w (history (opened n w).book calls) (run (opened n w).book calls)
 
 -- it is so of every list of calls from an opening
 abbrev pub StoredHistories : Type 0
-StoredHistories = (n w : ℕ) → ring_verdict n w ≡ Allowed → (calls : List Call)
+StoredHistories = (n w : ℕ) → ring_verdict n w ≡ Ok tt → (calls : List Call)
     → StoredAfter n w calls (stored_form New (run (opened n w).book calls))
 
 -- "never revives an order removed by that revision": of two moments of a history, before its last i and its last j calls, an order removed
 -- by the one is not shown by the file of the other, if it loads under the revision of the one as lowest
 abbrev pub NeverRevives : Type 0
-NeverRevives = (n w : ℕ) → ring_verdict n w ≡ Allowed → (calls : List Call) (i j serial : ℕ)
+NeverRevives = (n w : ℕ) → ring_verdict n w ≡ Ok tt → (calls : List Call) (i j serial : ℕ)
     → was_removed (history (opened n w).book (drop i calls)) serial ≡ true
     → let file = loaded (revision (run (opened n w).book (drop i calls))) (stored_form New (run (opened n w).book (drop j calls))) in
-    file.answer ≡ answer.Loaded → NotShown file.book serial
+    file.answer ≡ Ok tt → NotShown file.book serial

@@ -1,4 +1,3 @@
 -- For contracts inside and for proofs alone: nothing here has to be believed.
 pub mod Handing
 pub mod Following
-pub mod Recent

@@ -1,35 +1,22 @@
 // Blocks of 512 bytes: block number, check, zeros.
-ghost use Rattle.std.specs.Prelude.{◌≡◌, length, replicate};
+ghost use Rattle.std.specs.Prelude.{◌≡◌, length};
 ghost use Rattle.stored.specs.Blocks.{check_of};
 ghost use Rattle.stored.specs.Internal.Handing.{sealed};
 ghost use Rattle.stored.specs.Reading.{block_right};
 
-use super::words::{put_word, value, word_at};
-use ring::flags::both;
+use super::words::{put_word, word_at};
 
 // Bytes 0 to 509, each times its position plus one, summed, modulo 65,521.
 pub fn check_of(block: &[u8]) -> u16
     requires { length block.now ≡ 512 }
     ensures { result ≡ check_of block.now }
 {
+    let weighed = &block[..510];
     let mut sum: u32 = 0;
-    let mut i: u32 = 0;
-    while i < 510 {
-        sum += (value(block[i as usize]) as u32) * (i + 1);
-        i += 1;
+    for (i, byte) in weighed.iter().enumerate() {
+        sum += u32::from(*byte) * (i as u32 + 1);
     }
     (sum % 65521) as u16
-}
-
-// Makes every byte zero.
-pub fn clear(block: &mut [u8])
-    ensures { block.new ≡ replicate (length block.old) 0 }
-{
-    let mut i: usize = 0;
-    while i < block.len() {
-        block[i] = 0;
-        i += 1;
-    }
 }
 
 // Writes the block number and the check.
@@ -43,11 +30,10 @@ pub fn seal(block: &mut [u8], number: u16)
 }
 
 // Whether the block number and the check are right.
+#[tactic(auto, unfolding(crate::specs::Reading::block_right))]
 pub fn block_right(block: &[u8], number: u16) -> bool
     requires { length block.now ≡ 512 }
     ensures { result ≡ block_right number block.now }
 {
-    let numbered = word_at(block, 508) == number;
-    let checked = word_at(block, 510) == check_of(block);
-    both(numbered, checked)
+    word_at(block, 508) == number && word_at(block, 510) == check_of(block)
 }

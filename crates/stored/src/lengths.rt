@@ -2,20 +2,23 @@
 ghost use Rattle.std.specs.Prelude.{◌≡◌, ◌≤◌};
 ghost use Rattle.stored.specs.Forms.{later_blocks, stored_length};
 
-use super::forms::{Form, block_records};
+use super::forms::Form;
 
-// The blocks behind block 0: one for every begun group of the records that fill a block.
-fn later_blocks(form: Form, count: usize) -> usize
-    requires { count ≤ 512 }
-    ensures { result ≡ later_blocks form count }
-{
-    let group = block_records(form);
-    (count + (group - 1)) / group
-}
+impl Form {
+    // The blocks behind block 0: one for every begun group of the records that fill a block.
+    #[tactic(auto, using(crate::proofs::FormLaws::later_groups))]
+    fn later_blocks(self, count: usize) -> usize
+        requires { count ≤ 512 }
+        ensures { result ≡ later_blocks self count }
+    {
+        count.div_ceil(self.block_records())
+    }
 
-pub fn stored_length(form: Form, count: usize) -> usize
-    requires { count ≤ 512 }
-    ensures { result ≡ stored_length form count }
-{
-    512 + 512 * later_blocks(form, count)
+    #[tactic(auto, using(crate::proofs::FormLaws::length_small))]
+    pub fn stored_length(self, count: usize) -> usize
+        requires { count ≤ 512 }
+        ensures { result ≡ stored_length self count }
+    {
+        512 + 512 * self.later_blocks(count)
+    }
 }

@@ -6,31 +6,23 @@ ghost use Rattle.stored.specs.Reading.{blocks_right, crew_at, state_of, state_at
 ghost use Rattle.stored.specs.Internal.Handing.{extended, ReadRoom};
 
 use super::blocks::block_right;
-use super::forms::{Form, block_share, record_place};
+use super::forms::Form;
 use super::words::word_at;
-use book::books::record_count;
-use book::circuits::RecordState;
-use book::{Book, Circuit};
+use book::{Book, Circuit, RecordState};
 use ring::Fate;
-use ring::fates::fate_of;
-use ring::flags::both;
-use ring::numbers::{narrow, wide};
 
 // Whether every block has its number and its check.
 pub fn blocks_right(bytes: &[u8]) -> bool
     requires { (length bytes.now % 512 ≡ 0) × (length bytes.now ≤ 7168) }
     ensures { result ≡ blocks_right bytes.now (length bytes.now / 512) }
 {
-    let count = bytes.len() / 512;
-    let mut right = true;
-    let mut block: usize = 0;
-    while block < count {
+    for block in 0..bytes.len() / 512 {
         let start = block * 512;
-        let end = start + 512;
-        right = both(right, block_right(&bytes[start..end], narrow(block)));
-        block += 1;
+        if !block_right(&bytes[start..start + 512], block as u16) {
+            return false;
+        }
     }
-    right
+    true
 }
 
 // The crew of a record: the desk's number in the old form.
@@ -48,9 +40,10 @@ fn state_of(number: u16) -> RecordState
     ensures { result ≡ state_of number }
 {
     if number == 0 {
-        return RecordState::Live;
+        RecordState::Live
+    } else {
+        RecordState::Pending
     }
-    RecordState::Pending
 }
 
 // The state of a record: live in the old form.
@@ -65,55 +58,36 @@ fn state_at(form: Form, block: &[u8], at: usize) -> RecordState
 }
 
 // The circuit of a record.
+#[tactic(auto, unfolding(crate::specs::Reading::circuit_at))]
 fn circuit_at(form: Form, block: &[u8], at: usize) -> Circuit
     requires { at + record_size form ≤ length block.now }
     ensures { result ≡ circuit_at form block.now at }
 {
-    let serial = word_at(block, at);
-    let a = word_at(block, at + 2);
-    let b = word_at(block, at + 4);
-    let fate = fate_of(word_at(block, at + 6));
-    let crew = crew_at(form, block, at);
-    let state = state_at(form, block, at);
-    match fate {
+    match Fate::from(word_at(block, at + 6)) {
         Fate::Served(way, colour) => Circuit {
-            serial: serial,
-            a: a,
-            b: b,
-            way: way,
-            state: state,
-            colour: colour,
-            crew: crew,
+            serial: word_at(block, at),
+            a: word_at(block, at + 2),
+            b: word_at(block, at + 4),
+            way,
+            state: state_at(form, block, at),
+            colour,
+            crew: crew_at(form, block, at),
         },
         Fate::Blocked => Circuit::vacant(),
     }
 }
 
-// The book with the circuits of one block more.
-fn read_block(form: Form, block: &[u8], book: Book, total: usize) -> Book
-    requires { ReadRoom block.now book total }
-    ensures { result ≡ extended book
-        (records_in form block.now (min (block_records form) (total - length (records_of book)))) }
+// Puts the circuits of one block more behind those that the book has.
+fn read_block(form: Form, block: &[u8], book: &mut Book, total: usize)
+    requires { ReadRoom block.now book.old total }
+    ensures { book.new ≡ extended book.old
+        (records_in form block.now (min (block_records form) (total - length (records_of book.old)))) }
 {
-    let mut filled = book;
-    let first = record_count(book);
-    let count = block_share(form, total - first);
-    let mut i: usize = 0;
-    while i < count {
-        let circuit = circuit_at(form, block, record_place(form, i));
-        filled.places[first + i] = circuit;
-        filled.records = narrow(first + i + 1);
-        i += 1;
+    let first = book.record_count();
+    for i in 0..form.block_share(total - first) {
+        book.places[first + i] = circuit_at(form, block, form.record_place(i));
+        book.records = (first + i + 1) as u16;
     }
-    filled
-}
-
-// A count of records, of which no more than 512 are read.
-fn at_most_all(stated: u16) -> usize
-    ensures { result ≡ min 512 stated }
-{
-    let count = wide(stated);
-    if count < 512 { count } else { 512 }
 }
 
 // The book that the bytes tell.
@@ -121,16 +95,12 @@ pub fn book_in(form: Form, bytes: &[u8]) -> Book
     requires { (0 < length bytes.now) × (length bytes.now % 512 ≡ 0) × (length bytes.now ≤ 7168) }
     ensures { result ≡ book_in form bytes.now }
 {
-    let header = &bytes[0..512];
-    let total = at_most_all(word_at(header, 6));
+    let header = &bytes[..512];
+    let total = usize::from(word_at(header, 6)).min(512);
     let mut book = Book::blank(word_at(header, 0), word_at(header, 2), word_at(header, 4));
-    let count = bytes.len() / 512;
-    let mut block: usize = 1;
-    while block < count {
+    for block in 1..bytes.len() / 512 {
         let start = block * 512;
-        let end = start + 512;
-        book = read_block(form, &bytes[start..end], book, total);
-        block += 1;
+        read_block(form, &bytes[start..start + 512], &mut book, total);
     }
     book
 }

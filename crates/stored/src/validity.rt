@@ -1,92 +1,65 @@
 // The tests for a valid book.
 ghost use Rattle.std.specs.Prelude.{◌≡◌, true, ◌&&◌, ◌≤◌, length};
 ghost use Rattle.book.specs.Books.{records_of};
-ghost use Rattle.links.specs.Links.{LinkSets};
 ghost use Rattle.stored.specs.Validity.{ring_fits, circuit_fits, serial_fits, circuits_fit, book_fits};
 ghost use Rattle.stored.specs.Internal.Following.{NextHolds};
 
-use book::books::record_count;
-use book::circuits::ends_of;
 use book::{Book, Circuit};
-use links::hold;
+use links::HeldLinks;
 use ring::Ring;
-use ring::flags::both;
 
 fn ring_fits(n: u16, w: u16) -> bool
     ensures { result ≡ ring_fits n w }
 {
-    let nodes = both(Ring::MIN_NODES <= n, n <= Ring::MAX_NODES);
-    let colours = both(Ring::MIN_COLOURS <= w, w <= Ring::MAX_COLOURS);
-    both(nodes, colours)
+    Ring::new(n, w).is_ok()
 }
 
-fn circuit_fits(n: u16, w: u16, circuit: Circuit) -> bool
-    ensures { result ≡ circuit_fits n w circuit }
+#[tactic(auto, unfolding(crate::specs::Validity::circuit_fits))]
+fn circuit_fits(n: u16, w: u16, circuit: &Circuit) -> bool
+    ensures { result ≡ circuit_fits n w circuit.now }
 {
-    let nodes = both(circuit.a < circuit.b, circuit.b < n);
-    let numbers = both(circuit.colour < w, circuit.crew <= 999);
-    both(nodes, numbers)
+    circuit.a < circuit.b && circuit.b < n && circuit.colour < w && circuit.crew <= 999
 }
 
+#[tactic(auto, unfolding(crate::specs::Validity::serial_fits))]
 fn serial_fits(last: u16, grants: u16, serial: u16) -> bool
     ensures { result ≡ serial_fits last grants serial }
 {
-    both(last < serial, serial <= grants)
+    last < serial && serial <= grants
 }
 
 // Whether a circuit may follow others: its limits, its serial, and that no link of its way is held in its colour. From then on it holds
 // them.
-fn may_follow(
-    held: &mut [[u64; 4]],
-    n: u16,
-    w: u16,
-    grants: u16,
-    last: u16,
-    circuit: Circuit,
-) -> bool
-    requires { LinkSets held.old × (n ≤ 256) × (w ≤ 128) }
+fn may_follow(held: &mut HeldLinks, book: &Book, last: u16, circuit: &Circuit) -> bool
+    requires { (book.now.n ≤ 256) × (book.now.w ≤ 128) }
     ensures { NextHolds held.old held.new
-        (circuit_fits n w circuit && serial_fits last grants circuit.serial) circuit result }
+        (circuit_fits book.now.n book.now.w circuit.now && serial_fits last book.now.grants circuit.now.serial) circuit.now result }
 {
-    let fits = both(
-        circuit_fits(n, w, circuit),
-        serial_fits(last, grants, circuit.serial),
-    );
-    if !fits {
-        return false;
-    }
-    let way = circuit.way;
-    hold(held, way, ends_of(circuit), circuit.colour as usize)
+    circuit_fits(book.n, book.w, circuit)
+        && serial_fits(last, book.grants, circuit.serial)
+        && held.hold(circuit.way, circuit.ends(), usize::from(circuit.colour))
 }
 
-// Whether each circuit may follow those before it. `may_follow` is handed numbers: the book would be copied for each circuit.
-fn circuits_fit(book: Book) -> bool
-    requires { ring_fits book.n book.w ≡ true }
-    ensures { result ≡ circuits_fit book (length (records_of book)) }
+// Whether each circuit may follow those before it.
+fn circuits_fit(book: &Book) -> bool
+    requires { ring_fits book.now.n book.now.w ≡ true }
+    ensures { result ≡ circuits_fit book.now (length (records_of book.now)) }
 {
-    let count = record_count(book);
-    let none = [0u64; 4];
-    let mut held = [none; 128];
+    let mut held = HeldLinks::new();
     let mut last: u16 = 0;
-    let mut i: usize = 0;
-    while i < count {
-        let circuit = book.places[i];
-        let follows = may_follow(&mut held, book.n, book.w, book.grants, last, circuit);
-        if !follows {
+    for circuit in book.records() {
+        if !may_follow(&mut held, book, last, circuit) {
             return false;
         }
         last = circuit.serial;
-        i += 1;
     }
     true
 }
 
 // Whether a book is within the limits, its serials rise, and no two circuits share a colour on a link.
-pub fn book_fits(book: Book) -> bool
-    ensures { result ≡ book_fits book }
+#[tactic(auto, unfolding(crate::specs::Validity::book_fits))]
+pub fn book_fits(book: &Book) -> bool
+    ensures { result ≡ book_fits book.now }
 {
-    if !ring_fits(book.n, book.w) {
-        return false;
-    }
-    circuits_fit(book)
+    ring_fits(book.n, book.w) && circuits_fit(book)
 }

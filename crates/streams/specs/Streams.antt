@@ -1,9 +1,7 @@
 -- Reading an input.
-use Rattle.std.specs.Prelude.{ℕ, ◌≤◌}
-use Rattle.streams.specs.declared.Reading.{Reading}
-use Rattle.streams.specs.declared.Reading.TheVariants.{Failed, Read}
+use Rattle.std.specs.Prelude.{ℕ, ◌≤◌, IfOk, Result}
+use Rattle.std.specs.declared.io.Error.{Error}
 
 -- what was read stands within a buffer of so many bytes
-abbrev pub ReadFits : ℕ → Reading → Type 0
-ReadFits most (Failed _) = Unit
-ReadFits most (Read length) = length ≤ most
+abbrev pub ReadFits : ℕ → Result ℕ Error → Type 0
+ReadFits most r = IfOk r (λ count. count ≤ most)

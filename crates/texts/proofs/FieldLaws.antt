@@ -1,30 +1,17 @@
--- Numbers and lines read from positions of a text.
+-- Numbers and lines read from the start of a text.
 use Prim.Native.Nat.{ℕ, zero, suc, ◌+◌, ◌*◌, ◌-◌, ◌≤◌, ◌<◌}
-use mathlib.Core.Path.{◌≡◌, refl, sym, ◌∙◌, ap}
-use mathlib.Core.Bool.{true, false, cond, ◌&&◌}
-use mathlib.Core.List.{List}
+use mathlib.Core.Path.{◌≡◌, refl, sym}
+use mathlib.Core.Bool.{true, cond, ◌&&◌}
+use mathlib.Core.List.{List, [], ◌∷◌}
 use native.Mathlib.Omega.{arith}
-use native.Mathlib.Numerals.{add-one, unary_clauses}
+use native.Mathlib.Numerals.{add-one}
 use lib.Dec.{eqb, leb, ltb}
-use lib.ListN.{length, get_or, drop, drop_of_length-le}
+use lib.ListN.{length}
 use borrow.Author.Tests.{ltb-true, leb-true}
 use Rattle.ring.proofs.Cases.{yes, no, is, and_true}
-use Rattle.ring.proofs.ListLaws.{drop_next}
-use Rattle.texts.specs.Fields.{missing, found, one_more, closes, field_from, field, long_field, space, line_feed, broken, two, line}
+use Rattle.texts.specs.Fields.{Field, missing, found, on_field, one_more, closes, field_from, field, long_field, space, line_feed, broken, two, line}
 use Rattle.texts.specs.Fields.{ended}
-use Rattle.texts.specs.Internal.Positions.{long_in, field_in, line_in, LongFits, LongRead, FieldRead, LineRead}
-use Rattle.texts.specs.declared.fields.LongAt.{LongAt}
-use Rattle.texts.specs.declared.fields.LongAt.TheVariants as longAt
-use Rattle.texts.specs.declared.fields.FieldAt.{FieldAt}
-use Rattle.texts.specs.declared.fields.FieldAt.TheVariants as field_at
-use Rattle.texts.specs.declared.fields.LineAt.{LineAt}
-use Rattle.texts.specs.declared.fields.LineAt.TheVariants as line_at
 use Rattle.texts.proofs.DecimalLaws.{tens}
-
--- what is not 0 is positive
-pub positive : (k : ℕ) → (k ≡ 0 → ⊥) → 0 < k
-positive zero h = absurd (h refl)
-positive (suc k) h = omega arith
 
 -- one more digit is a digit, and is one of so many
 pub one_more_digit : (most b count : ℕ) → one_more most b count ≡ true → (48 ≤ b) × (b ≤ 57) × (count < most)
@@ -47,110 +34,59 @@ tens_small count value h l = let most : tens count ≤ 1000000000 = tens_rise co
 pub tens_next : (count value digit : ℕ) → value < tens count → digit ≤ 9 → 10 * value + digit < tens (count + 1)
 tens_next count value digit h l = rw add-one (omega arith)
 
--- at the start no digit is read
-pub field_start : (most limit close : ℕ) (text : List ℕ) (at : ℕ)
-    → field_from most limit close 0 0 (drop (at + 0) text) ≡ field_from most limit close 0 0 (drop at text)
-field_start most limit close text at = simp unary_clauses refl
-
-module _ (most limit close : ℕ) (text : List ℕ) (at count value : ℕ) (here : at + count < length text) where
-  -- a digit is taken
-  pub field_turn : one_more most (get_or text (at + count) 0) count ≡ true
-      → field_from most limit close (count + 1) (10 * value + (get_or text (at + count) 0 - 48)) (drop (at + (count + 1)) text)
-      ≡ field_from most limit close count value (drop (at + count) text)
-  field_turn e =
-      let next : at + (count + 1) ≡ at + count + 1 = omega arith in
-      rw (next, drop_next text (at + count) 0 here, e) refl
-
-  pub field_again : (value' : ℕ) → value < tens count → one_more most (get_or text (at + count) 0) count ≡ true
-      → value' ≡ 10 * value + (get_or text (at + count) 0 - 48)
-      → field_from most limit close count value (drop (at + count) text) ≡ field_from most limit close 0 0 (drop at text)
-      → (count + 1 ≤ most) × (at + (count + 1) ≤ length text) × (value' < tens (count + 1))
-      × (field_from most limit close (count + 1) value' (drop (at + (count + 1)) text) ≡ field_from most limit close 0 0 (drop at text))
-  field_again value' small e q same =
-      let digit = one_more_digit most (get_or text (at + count) 0) count e in
-      let next = tens_next count value (get_or text (at + count) 0 - 48) small (omega arith) in
-      (omega arith, omega arith, omega arith, rw q (field_turn e ∙ same))
-
-  -- the byte behind the digits
-  pub field_closing : one_more most (get_or text (at + count) 0) count ≡ false → (r : LongAt)
-      → r ≡ cond (closes limit close (get_or text (at + count) 0) count value) (longAt.Found value (at + count + 1)) longAt.Missing
-      → (long_in text r ≡ field_from most limit close count value (drop (at + count) text)) × LongFits limit (at + 2) (length text) r
-  field_closing e r q = elim (is (closes limit close (get_or text (at + count) 0) count value)) [
-    | yes t ↦
-        let rest = (and_true (eqb (get_or text (at + count) 0) close) (ltb 0 count && leb value limit) t).1 in
-        let some = ltb-true 0 count (and_true (ltb 0 count) (leb value limit) rest).0 in
-        let within = leb-true value limit (and_true (ltb 0 count) (leb value limit) rest).1 in
-        rw (q, t) (rw (drop_next text (at + count) 0 here, e, t) refl, (within, (omega arith, omega arith)))
-    | no t ↦ rw (q, t) (rw (drop_next text (at + count) 0 here, e, t) refl, tt)
+-- a number that is read leaves less of the text: a digit and the closing byte are two bytes
+from_shorter : (most limit close count value : ℕ) (text : List ℕ) {v : ℕ} {rest : List ℕ}
+    → field_from most limit close count value text ≡ found v rest → length rest + 1 + cond (ltb 0 count) 0 1 ≤ length text
+from_shorter most limit close count value [] {v} {rest} e = let z : ◌≡◌ {A = ℕ} 0 1 = cc in absurd (omega arith)
+from_shorter most limit close count value (b ∷ text) {v} {rest} e = elim (is (one_more most b count)) [
+  | yes t ↦
+      let tail = from_shorter most limit close (count + 1) (10 * value + (b - 48)) text (rw t at e) in
+      grind (arith, tail)
+  | no t ↦ elim (is (closes limit close b count value)) [
+    | yes c ↦
+        let some = (and_true (ltb 0 count) (leb value limit) (and_true (eqb b close) (ltb 0 count && leb value limit) c).1).0 in
+        let here : found value text ≡ found v rest = rw (t, c) at e in
+        let same : text ≡ rest = cc in
+        rw (← same, some) (omega arith)
+    | no c ↦
+        let here : missing ≡ found v rest = rw (t, c) at e in
+        let z : ◌≡◌ {A = ℕ} 0 1 = cc in
+        absurd (omega arith)
   ]
+]
 
--- past the text there is no number
-pub field_none : (most limit close : ℕ) (text : List ℕ) (at count value : ℕ) → length text ≤ at + count
-    → missing ≡ field_from most limit close count value (drop (at + count) text)
-field_none most limit close text at count value h = rw (drop_of_length-le text h) refl
-
--- a long number that was found, and one that was not, as the definition has them
-module _ {close at : ℕ} {text : List ℕ} {r : LongAt} (s : LongRead 10 4294967295 close text at r) where
-  pub long_found : {v next : ℕ} → r ≡ longAt.Found v next
-      → (long_field close (drop at text) ≡ found v (drop next text)) × ((at + 2 ≤ next) × (next ≤ length text))
-  unfolding long_field
-  long_found e = (sym s.same ∙ ap (long_in text) e, (rw e at s.fits).1)
-
-  pub long_lost : r ≡ longAt.Missing → long_field close (drop at text) ≡ missing
-  unfolding long_field
-  long_lost e = sym s.same ∙ ap (long_in text) e
-
--- a number of 16 bits, from the long one
-pub field_of : {close at v next : ℕ} {text : List ℕ} {r : LongAt} → LongRead 5 65535 close text at r → r ≡ longAt.Found v next
-    → (v < 65536) × FieldRead close text at (field_at.Found v next)
+pub field_shorter : (close : ℕ) (text : List ℕ) {v : ℕ} {rest : List ℕ} → found v rest ≡ field close text → length rest + 2 ≤ length text
 unfolding field
-field_of {close} {at} {v} {next} {text} s e =
-    let fits = rw e at s.fits in
-    (omega arith, record { same = sym (ap (long_in text) e) ∙ s.same; fits = fits.1 })
+field_shorter close text e = let short = from_shorter 5 65535 close 0 0 text (sym e) in omega arith
 
-pub field_missing : {close at : ℕ} {text : List ℕ} {r : LongAt} → LongRead 5 65535 close text at r → r ≡ longAt.Missing
-    → FieldRead close text at field_at.Missing
-unfolding field
-field_missing {close} {at} {text} s e = record { same = sym (ap (long_in text) e) ∙ s.same; fits = tt }
+pub long_shorter : (close : ℕ) (text : List ℕ) {v : ℕ} {rest : List ℕ} → found v rest ≡ long_field close text
+    → length rest + 2 ≤ length text
+unfolding long_field
+long_shorter close text e = let short = from_shorter 10 4294967295 close 0 0 text (sym e) in omega arith
 
--- a number that was found, and one that was not, as the definition has them
-pub field_found : {close at v next : ℕ} {text : List ℕ} {r : FieldAt} → FieldRead close text at r → r ≡ field_at.Found v next
-    → (field close (drop at text) ≡ found v (drop next text)) × ((at + 2 ≤ next) × (next ≤ length text))
-field_found {close} {at} {v} {next} {text} {r} s e = (sym s.same ∙ ap (field_in text) e, rw e at s.fits)
-
-pub field_lost : {close at : ℕ} {text : List ℕ} {r : FieldAt} → FieldRead close text at r → r ≡ field_at.Missing
-    → field close (drop at text) ≡ missing
-field_lost {close} {at} {text} {r} s e = sym s.same ∙ ap (field_in text) e
-
--- a line, from its numbers
-pub line_found : {at x behind y next : ℕ} {text : List ℕ} {r s : FieldAt} → FieldRead space text at r → r ≡ field_at.Found x behind
-    → FieldRead line_feed text behind s → s ≡ field_at.Found y next → LineRead text at (line_at.Ends x y next)
+-- and so does a line
+pub line_shorter : (text : List ℕ) {x y : ℕ} {rest : List ℕ} → two x y rest ≡ line text → length rest + 4 ≤ length text
 unfolding line
-line_found {at} {x} {behind} {y} {next} {text} r e s q =
-    let first = field_found r e in
-    let second = field_found s q in
-    record { same = rw (first.0, second.0) refl; fits = (omega arith, second.1.1) }
+line_shorter text {x} {y} {rest} e = first (field space text) refl (sym e)
+  where
+    second : (v : ℕ) (behind : List ℕ) → length behind + 2 ≤ length text → (f : Field) → field line_feed behind ≡ f
+        → on_field f broken (λ u last. two v u last) ≡ two x y rest → length rest + 4 ≤ length text
+    second v behind h missing q e = let z : ◌≡◌ {A = ℕ} 0 1 = cc in absurd (omega arith)
+    second v behind h (found u last) q e =
+        let short = field_shorter line_feed behind (sym q) in
+        let same : last ≡ rest = cc in
+        rw (← same) (omega arith)
 
-pub line_lost : {at : ℕ} {text : List ℕ} {r : FieldAt} → FieldRead space text at r → r ≡ field_at.Missing → LineRead text at line_at.Broken
-unfolding line
-line_lost {at} {text} r e = record { same = rw (field_lost r e) refl; fits = tt }
+    first : (f : Field) → field space text ≡ f
+        → on_field f broken (λ v behind. on_field (field line_feed behind) broken (λ u last. two v u last)) ≡ two x y rest
+        → length rest + 4 ≤ length text
+    first missing q e = let z : ◌≡◌ {A = ℕ} 0 1 = cc in absurd (omega arith)
+    first (found v behind) q e = second v behind (field_shorter space text (sym q)) (field line_feed behind) refl e
 
-pub line_open : {at x behind : ℕ} {text : List ℕ} {r s : FieldAt} → FieldRead space text at r → r ≡ field_at.Found x behind
-    → FieldRead line_feed text behind s → s ≡ field_at.Missing → LineRead text at line_at.Broken
-unfolding line
-line_open {at} {x} {behind} {text} r e s q = record { same = rw ((field_found r e).0, field_lost s q) refl; fits = tt }
+-- something or nothing is left
+pub ended_not : {A : Type 0} (rest : List ℕ) (this that : A) → (rest ≡ [] → ⊥) → ended rest this that ≡ that
+ended_not [] this that h = absurd (h refl)
+ended_not (b ∷ rest) this that h = refl
 
--- a line that was found, and one that was not, as the definition has them
-pub line_is : {at x y next : ℕ} {text : List ℕ} {r : LineAt} → LineRead text at r → r ≡ line_at.Ends x y next
-    → (line (drop at text) ≡ two x y (drop next text)) × ((at + 4 ≤ next) × (next ≤ length text))
-line_is {at} {x} {y} {next} {text} {r} s e = (sym s.same ∙ ap (line_in text) e, rw e at s.fits)
-
-pub line_is_not : {at : ℕ} {text : List ℕ} {r : LineAt} → LineRead text at r → r ≡ line_at.Broken → line (drop at text) ≡ broken
-line_is_not {at} {text} {r} s e = sym s.same ∙ ap (line_in text) e
-
--- something or nothing stands behind a position
-pub ended_not : {A : Type 0} (text : List ℕ) (i : ℕ) (this that : A) → i < length text → ended (drop i text) this that ≡ that
-ended_not text i this that h = rw (drop_next text i 0 h) refl
-
-pub ended_so : {A : Type 0} (text : List ℕ) (i : ℕ) (this that : A) → length text ≤ i → ended (drop i text) this that ≡ this
-ended_so text i this that h = rw (drop_of_length-le text h) refl
+pub ended_so : {A : Type 0} (rest : List ℕ) (this that : A) → rest ≡ [] → ended rest this that ≡ this
+ended_so rest this that e = rw e refl

@@ -5,4 +5,3 @@ pub mod OutputLaws
 pub mod WordLaws
 pub mod FieldLaws
 pub mod DecimalRead
-pub mod GroundLaws

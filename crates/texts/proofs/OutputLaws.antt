@@ -4,8 +4,9 @@ use mathlib.Core.Path.{◌≡◌, refl, ◌∙◌, ap}
 use mathlib.Core.List.{List}
 use native.Mathlib.Omega.{arith}
 use lib.ListN.{length, length-append, length-drop}
+use Rattle.texts.specs.declared.writing.Writer.{Writer}
 use Rattle.texts.specs.Outputs.{Output}
-use Rattle.texts.specs.Internal.Writing.{Wrote}
+use Rattle.texts.specs.Internal.Writing.{Begun, Wrote}
 use Rattle.texts.proofs.WritingLaws.{wrote_front}
 
 -- a short buffer gets nothing
@@ -14,10 +15,10 @@ output_short least text out h =
     record { short = λ l. (refl, refl); whole = λ l. absurd (omega arith); buffer = λ l. absurd (omega arith) }
 
 -- a text that is written from the start on
-pub output_written : {least : ℕ} {shown text out after : List ℕ} {size : ℕ} → least ≤ length out → shown ≡ text
-    → Wrote out 0 shown after size → Output least text out after size
-output_written {least} {shown} {text} {out} {after} {size} h e t =
-    let front = wrote_front (rw e at t) in
+pub output_written : {least : ℕ} {shown text out : List ℕ} {before after : Writer} → least ≤ length out → shown ≡ text
+    → Begun out before → Wrote before shown after → Output least text out after.out.now after.at
+output_written {least} {shown} {text} {out} {before} {after} h e b t =
+    let front = wrote_front b (rw e at t) in
     record { short = λ l. absurd (omega arith); whole = λ l. front.0; buffer = λ l. front.1 }
 
 -- it stands within the buffer

@@ -1,4 +1,4 @@
--- The lengths of words with numbers, and the room that they leave.
+-- The lengths of words with numbers.
 use Prim.Native.Nat.{ℕ, ◌+◌, ◌≤◌}
 use mathlib.Core.List.{List}
 use native.Mathlib.Omega.{arith}
@@ -6,9 +6,7 @@ use lib.ListN.{length, length-append}
 use Rattle.ring.specs.declared.ways.Way.{Way}
 use Rattle.ring.specs.declared.ways.Way.TheVariants.{Plain, Seam}
 use Rattle.texts.specs.Layout.{labelled, way_ending}
-use Rattle.texts.specs.Internal.Writing.{Wrote}
 use Rattle.texts.proofs.DecimalLaws.{decimal_short}
-use Rattle.texts.proofs.WritingLaws.{wrote_length}
 
 -- a number of at most 5 digits follows the word
 pub labelled_short : (word : List ℕ) (n : ℕ) → length (labelled word n) ≤ length word + 5
@@ -18,11 +16,3 @@ labelled_short word n = let short = decimal_short n in rw length-append (omega a
 pub way_short : (way : Way) (colour : ℕ) → length (way_ending way colour) ≤ 8
 way_short Plain colour = labelled_short _ colour
 way_short Seam colour = labelled_short _ colour
-
--- the room that a write leaves
-pub room_left : {out mid : List ℕ} {at next : ℕ} {bytes : List ℕ} (most rest : ℕ) → Wrote out at bytes mid next → length bytes ≤ most
-    → at + (most + rest) ≤ length out
-    → next + rest ≤ length mid
-room_left {out} {mid} {at} {next} {bytes} most rest s short room =
-    let size = wrote_length s in
-    omega arith

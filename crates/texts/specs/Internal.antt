@@ -1,3 +1,3 @@
 -- For contracts inside and for proofs alone: nothing here has to be believed.
-pub mod Positions
+pub mod Readings
 pub mod Writing

@@ -1,117 +1,114 @@
-// Numbers in a text: one at a position, and a line of two.
-ghost use Rattle.std.specs.Prelude.{◌≡◌, cond, ◌+◌, ◌*◌, ◌-◌, ◌≤◌, ◌<◌, length};
-ghost use Rattle.texts.specs.Fields.{one_more, closes};
-ghost use Rattle.texts.specs.Internal.Positions.{LongRead, FieldRead, LineRead};
+// Numbers in a text: one that a byte closes, and a line of two.
+ghost use Rattle.std.specs.Prelude.{◌≡◌, ◌+◌, ◌*◌, ◌-◌, ◌≤◌, ◌<◌, length, IfSome, IsTrue, ◌↔◌, []};
+ghost use Rattle.texts.specs.Fields.{one_more, closes, field_from, field, long_field, line};
+ghost use Rattle.texts.specs.Internal.Readings.{number_found, field_read, line_read};
 
-// A number of 32 bits, and the position behind the byte that closes it.
-#[derive(Clone, Copy)]
-pub enum LongAt {
-    Missing,
-    Found(u32, usize),
+use std::marker::Model;
+
+// A text, read from its start on: what is left of it.
+#[derive(Drop)]
+pub struct Reader<'a> {
+    rest: &'a [u8],
 }
 
-// A number, and the position behind the byte that closes it.
-#[derive(Clone, Copy)]
-pub enum FieldAt {
-    Missing,
-    Found(u16, usize),
-}
+impl<'a> Model for Reader<'a> {
+    ghost use Rattle.std.specs.Prelude.{ℕ, List};
 
-// A line of two ends, and the position behind it.
-#[derive(Clone, Copy)]
-pub enum LineAt {
-    Broken,
-    Ends(u16, u16, usize),
+    ghost Value = { List ℕ };
+
+    ghost view = { λ reader. reader.rest.now };
 }
 
 // Whether the byte is one more digit, of so many that a number may have.
 fn one_more(most: usize, byte: u8, count: usize) -> bool
     ensures { result ≡ one_more most byte count }
 {
-    if byte < 48 {
-        return false;
-    }
-    if 57 < byte {
-        return false;
-    }
-    count < most
+    byte.is_ascii_digit() && count < most
 }
 
-// The value with one more digit.
-fn with_digit(value: u64, byte: u8) -> u64
-    requires { (value < 1000000000) × (48 ≤ byte) }
-    ensures { result ≡ 10 * value + (byte - 48) }
+// Whether the byte closes the number behind its digits.
+fn closes(limit: u32, close: u8, byte: u8, count: usize, value: u64) -> bool
+    ensures { result ≡ closes limit close byte count value }
 {
-    10 * value + (byte - 48) as u64
+    byte == close && 0 < count && value <= u64::from(limit)
 }
 
-// The number, if the byte behind its digits closes it.
-fn closing(limit: u32, close: u8, byte: u8, count: usize, value: u64, next: usize) -> LongAt
-    ensures { result ≡ cond (closes limit close byte count value) (LongAt.Found value next) LongAt.Missing }
-{
-    if byte != close {
-        return LongAt::Missing;
-    }
-    if count == 0 {
-        return LongAt::Missing;
-    }
-    if (limit as u64) < value {
-        return LongAt::Missing;
-    }
-    LongAt::Found(value as u32, next)
-}
-
-// The number at a position that the byte closes, of at most so many digits and up to the limit.
-fn number_at(text: &[u8], at: usize, close: u8, most: usize, limit: u32) -> LongAt
-    requires { (at ≤ length text.now) × (most ≤ 10) }
-    ensures { LongRead most limit close text.now at result }
+// The number at the start of a text that the byte closes, of at most so many digits and up to the limit; the text behind it.
+fn number(text: &[u8], close: u8, most: usize, limit: u32) -> Option<(u32, &[u8])>
+    requires { most ≤ 10 }
+    ensures same { number_found result ≡ field_from most limit close 0 0 text.now }
+    ensures fits { IfSome result (λ found. found.0 ≤ limit) }
 {
     let mut value: u64 = 0;
-    let mut count: usize = 0;
-    while at + count < text.len() {
-        let byte = text[at + count];
-        let digit = one_more(most, byte, count);
-        if !digit {
-            return closing(limit, close, byte, count, value, at + count + 1);
+    for (count, byte) in text.iter().enumerate() {
+        if !one_more(most, *byte, count) {
+            if closes(limit, close, *byte, count, value) {
+                return Some((value as u32, &text[count + 1..]));
+            }
+            return None;
         }
-        value = with_digit(value, byte);
-        count += 1;
+        value = 10 * value + u64::from(*byte - b'0');
     }
-    LongAt::Missing
+    None
 }
 
-// The number at a position that the byte closes: 1 to 5 digits up to 65,535.
-pub fn field(text: &[u8], at: usize, close: u8) -> FieldAt
-    requires { at ≤ length text.now }
-    ensures { FieldRead close text.now at result }
-{
-    let found = number_at(text, at, close, 5, 65535);
-    let LongAt::Found(value, next) = found else {
-        return FieldAt::Missing;
-    };
-    FieldAt::Found(value as u16, next)
-}
+impl<'a> Reader<'a> {
+    // One that has read nothing yet.
+    pub fn new(text: &'a [u8]) -> Reader<'a>
+        ensures { result ≡ text.now }
+    {
+        Reader { rest: text }
+    }
 
-// The same of 1 to 10 digits up to 4,294,967,295.
-pub fn long_field(text: &[u8], at: usize, close: u8) -> LongAt
-    requires { at ≤ length text.now }
-    ensures { LongRead 10 4294967295 close text.now at result }
-{
-    number_at(text, at, close, 10, 4294967295)
-}
+    // What is left of the text.
+    pub fn rest(&self) -> &'a [u8]
+        ensures { result.now ≡ self.now }
+    {
+        self.rest
+    }
 
-// The line of two ends at a position.
-pub fn line(text: &[u8], at: usize) -> LineAt
-    requires { at ≤ length text.now }
-    ensures { LineRead text.now at result }
-{
-    let first = field(text, at, b' ');
-    let FieldAt::Found(x, behind) = first else {
-        return LineAt::Broken;
-    };
-    let second = field(text, behind, b'\n');
-    let FieldAt::Found(y, next) = second else {
-        return LineAt::Broken;
-    };
-    LineAt::Ends(x, y, next)
+    // Whether nothing is left of the text.
+    pub fn is_at_end(&self) -> bool
+        ensures { IsTrue result ↔ (self.now ≡ []) }
+    {
+        self.rest.is_empty()
+    }
+
+    // A number that the byte closes, of at most so many digits and up to the limit.
+    fn number(&mut self, close: u8, most: usize, limit: u32) -> Option<u32>
+        requires { most ≤ 10 }
+        ensures same { field_read result self.new ≡ field_from most limit close 0 0 self.old }
+        ensures fits { IfSome result (λ value. value ≤ limit) }
+    {
+        let (value, rest) = number(self.rest, close, most, limit)?;
+        self.rest = rest;
+        Some(value)
+    }
+
+    // The number that the byte closes: 1 to 5 digits up to 65,535.
+    #[tactic(auto, unfolding(crate::specs::Fields::field))]
+    pub fn field(&mut self, close: u8) -> Option<u16>
+        ensures { field_read result self.new ≡ field close self.old }
+    {
+        let value = self.number(close, 5, 65535)?;
+        Some(value as u16)
+    }
+
+    // The same of 1 to 10 digits up to 4,294,967,295.
+    #[tactic(auto, unfolding(crate::specs::Fields::long_field))]
+    pub fn long_field(&mut self, close: u8) -> Option<u32>
+        ensures { field_read result self.new ≡ long_field close self.old }
+    {
+        self.number(close, 10, 4294967295)
+    }
+
+    // The line of two ends.
+    #[tactic(auto, unfolding(crate::specs::Fields::line))]
+    pub fn line(&mut self) -> Option<(u16, u16)>
+        ensures { line_read result self.new ≡ line self.old }
+    {
+        let x = self.field(b' ')?;
+        let y = self.field(b'\n')?;
+        Some((x, y))
+    }
 }

@@ -1,4 +1,4 @@
-// What all texts are made of: words, numbers and grounds, written into buffers and read from positions.
+// What all texts are made of: words, numbers and grounds, written into buffers and read from their start on.
 #![tactic(auto)]
 
 pub mod fields;

@@ -1,27 +1,29 @@
 // Words with numbers behind them.
 ghost use Rattle.std.specs.Prelude.{◌+◌, ◌≤◌, length};
 ghost use Rattle.texts.specs.Layout.{labelled, way_ending};
-ghost use Rattle.texts.specs.Internal.Writing.{Wrote};
+ghost use Rattle.texts.specs.Internal.Writing.{Room, Wrote};
 
-use super::writing::{put, put_number};
+use super::writing::Writer;
 use ring::Way;
 
-// A word and a number.
-pub fn put_labelled(out: &mut [u8], at: usize, word: &[u8], n: u16) -> usize
-    requires { at + (length word.now + 5) ≤ length out.old }
-    ensures { Wrote out.old at (labelled word.now n) out.new result }
-{
-    let next = put(out, at, word);
-    put_number(out, next, n)
-}
+impl<'a> Writer<'a> {
+    // A word and a number.
+    pub fn labelled(&mut self, word: &[u8], n: u16)
+        requires { Room (length word.now + 5) self.old }
+        ensures { Wrote self.old (labelled word.now n) self.new }
+    {
+        self.bytes(word);
+        self.number(n);
+    }
 
-// The way and the colour of a request that is served.
-pub fn put_way(out: &mut [u8], at: usize, way: Way, colour: u16) -> usize
-    requires { at + 8 ≤ length out.old }
-    ensures { Wrote out.old at (way_ending way colour) out.new result }
-{
-    match way {
-        Way::Plain => put_labelled(out, at, b" P ", colour),
-        Way::Seam => put_labelled(out, at, b" S ", colour),
+    // The way and the colour of a request that is served.
+    pub fn way(&mut self, way: Way, colour: u16)
+        requires { Room 8 self.old }
+        ensures { Wrote self.old (way_ending way colour) self.new }
+    {
+        match way {
+            Way::Plain => self.labelled(b" P ", colour),
+            Way::Seam => self.labelled(b" S ", colour),
+        }
     }
 }

@@ -1,54 +1,66 @@
 // Bytes and numbers written into a buffer, one after the other.
-ghost use Rattle.std.specs.Prelude.{◌≡◌, [], ◌∷◌, ◌+◌, ◌≤◌, ◌<◌, length};
+ghost use Rattle.std.specs.Prelude.{◌≡◌, [], ◌∷◌, ◌+◌, ◌≤◌, length};
 ghost use Rattle.texts.specs.Decimal.{decimal, long_decimal};
-ghost use Rattle.texts.specs.Internal.Writing.{Wrote};
+ghost use Rattle.texts.specs.Internal.Writing.{Begun, Room, Wrote};
 
-// One byte.
-pub fn put_byte(out: &mut [u8], at: usize, byte: u8) -> usize
-    requires { at < length out.old }
-    ensures { Wrote out.old at (byte ∷ []) out.new result }
-{
-    out[at] = byte;
-    at + 1
+// A buffer that is lent, and how many bytes of it are written.
+#[derive(Drop)]
+pub struct Writer<'a> {
+    out: &'a mut [u8],
+    at: usize,
 }
 
-// A string of bytes.
-pub fn put(out: &mut [u8], at: usize, bytes: &[u8]) -> usize
-    requires { at + length bytes.now ≤ length out.old }
-    ensures { Wrote out.old at bytes.now out.new result }
-{
-    let mut i: usize = 0;
-    while i < bytes.len() {
-        out[at + i] = bytes[i];
-        i += 1;
+impl<'a> Writer<'a> {
+    // One that has written nothing yet.
+    pub fn new(out: &'a mut [u8]) -> Writer<'a>
+        ensures buffer { result.out.ghost_name ≡ out.entry.ghost_name }
+        ensures begun { Begun out.old result }
+    {
+        Writer { out, at: 0 }
     }
-    at + i
-}
 
-// The byte of a digit.
-fn digit(d: u64) -> u8
-    requires { d < 10 }
-    ensures { result ≡ 48 + d }
-{
-    48 + d as u8
-}
-
-// A number of 64 bits, without leading zeros.
-pub fn put_long(out: &mut [u8], at: usize, n: u64) -> usize
-    requires { at + length (long_decimal n) ≤ length out.old }
-    ensures { Wrote out.old at (long_decimal n) out.new result }
-{
-    if n < 10 {
-        return put_byte(out, at, digit(n));
+    // How many bytes are written.
+    pub fn len(&self) -> usize
+        ensures { result ≡ self.now.at }
+    {
+        self.at
     }
-    let next = put_long(out, at, n / 10);
-    put_byte(out, next, digit(n % 10))
-}
 
-// A number, without leading zeros.
-pub fn put_number(out: &mut [u8], at: usize, n: u16) -> usize
-    requires { at + 5 ≤ length out.old }
-    ensures { Wrote out.old at (decimal n) out.new result }
-{
-    put_long(out, at, n as u64)
+    // One byte.
+    pub fn byte(&mut self, byte: u8)
+        requires { Room 1 self.old }
+        ensures { Wrote self.old (byte ∷ []) self.new }
+    {
+        self.out[self.at] = byte;
+        self.at += 1;
+    }
+
+    // A string of bytes.
+    pub fn bytes(&mut self, bytes: &[u8])
+        requires { Room (length bytes.now) self.old }
+        ensures { Wrote self.old bytes.now self.new }
+    {
+        let end = self.at + bytes.len();
+        self.out[self.at..end].copy_from_slice(bytes);
+        self.at = end;
+    }
+
+    // A number of 64 bits, without leading zeros.
+    pub fn long(&mut self, n: u64)
+        requires { Room (length (long_decimal n)) self.old }
+        ensures { Wrote self.old (long_decimal n) self.new }
+    {
+        if 10 <= n {
+            self.long(n / 10);
+        }
+        self.byte(b'0' + (n % 10) as u8);
+    }
+
+    // A number, without leading zeros.
+    pub fn number(&mut self, n: u16)
+        requires { Room 5 self.old }
+        ensures { Wrote self.old (decimal n) self.new }
+    {
+        self.long(u64::from(n));
+    }
 }

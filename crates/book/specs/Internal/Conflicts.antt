@@ -3,9 +3,8 @@ use Rattle.std.specs.Prelude.{ℕ, ◌<◌, ◌≡◌, Bool, ◌&&◌, List, eqb
 use Rattle.ring.specs.declared.requests.Request.{Request}
 use Rattle.ring.specs.declared.ways.Way.{Way}
 use Rattle.ring.specs.declared.refusals.Refusal.TheVariants.{ColourHeld}
-use Rattle.ring.specs.declared.refusals.Verdict.{Verdict}
 use Rattle.ring.specs.Requests.{request_of}
-use Rattle.ring.specs.Refusals.{refuse_if, or_else}
+use Rattle.ring.specs.Refusals.{Verdict, refuse_if, or_else}
 use Rattle.ring.specs.Internal.Sharing.{sharing}
 use Rattle.book.specs.declared.circuits.Circuit.{Circuit}
 use Rattle.book.specs.declared.books.Book.{Book}

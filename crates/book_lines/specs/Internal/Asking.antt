@@ -1,37 +1,22 @@
--- What the reader of a bundle finds at positions of a text, read as the texts behind those positions.
-use Rattle.std.specs.Prelude.{ℕ, ◌≤◌, ◌≡◌, List, length, drop}
-use Rattle.book_lines.specs.declared.numbers.CrewedAt.{CrewedAt}
-use Rattle.book_lines.specs.declared.numbers.CrewedAt.TheVariants as crewedAt
-use Rattle.book_lines.specs.declared.asking.AskedAt.{AskedAt}
-use Rattle.book_lines.specs.declared.asking.AskedAt.TheVariants as askedAt
-use Rattle.book_lines.specs.Lines.{Crewed, none, crewed, crewed_of, Asked, broken, asked, asked_of}
+-- What the reader of a bundle finds, with what is left of the text behind it, as the definitions have it.
+use Rattle.std.specs.Prelude.{ℕ, List, Option, Some, None}
+use Rattle.book.specs.declared.grants.Line.{Line}
+use Rattle.bundles.specs.declared.bundles.Bundle.{Bundle}
+use Rattle.bundles.specs.Internal.Bundles.{Bundled}
 
--- a number and its crew with the text behind them
-abbrev pub crewed_in : List ℕ → CrewedAt → Crewed
-crewed_in text crewedAt.Missing = none
-crewed_in text (crewedAt.Found x crew next) = crewed x crew (drop next text)
+-- a number and its crew, and what is left behind them
+abbrev pub crewed_read : Option (ℕ × ℕ) → List ℕ → Option (ℕ × ℕ × List ℕ)
+crewed_read None rest = None
+crewed_read (Some both) rest = Some (both.0, both.1, rest)
 
--- what was found ends within the text
-abbrev pub CrewedFits : ℕ → CrewedAt → Type 0
-CrewedFits most crewedAt.Missing = Unit
-CrewedFits most (crewedAt.Found x crew next) = next ≤ most
+-- a line of a bundle, and what is left behind it
+abbrev pub asked_read : Option Line → List ℕ → Option (Line × List ℕ)
+asked_read None rest = None
+asked_read (Some l) rest = Some (l, rest)
 
--- a number and its crew closed by a byte, read at a position
-pub record CrewedRead (close : ℕ) (text : List ℕ) (at : ℕ) (result : CrewedAt) : Type 0 where
-  pub same : crewed_in text result ≡ crewed_of close (drop at text)
-  pub fits : CrewedFits (length text) result
-
--- a line of a bundle with the text behind it
-abbrev pub asked_in : List ℕ → AskedAt → Asked
-asked_in text askedAt.Broken = broken
-asked_in text (askedAt.Asked l next) = asked l (drop next text)
-
--- it ends within the text
-abbrev pub AskedFits : ℕ → AskedAt → Type 0
-AskedFits most askedAt.Broken = Unit
-AskedFits most (askedAt.Asked l next) = next ≤ most
-
--- a line of a bundle closed by a byte, read at a position
-pub record AskedRead (close : ℕ) (text : List ℕ) (at : ℕ) (result : AskedAt) : Type 0 where
-  pub same : asked_in text result ≡ asked_of close (drop at text)
-  pub fits : AskedFits (length text) result
+-- a bundle of these lines, or neither
+abbrev pub BundledIf : Option Bundle → Option (List Line) → Type 0
+BundledIf None None = Unit
+BundledIf None (Some ls) = ⊥
+BundledIf (Some bundle) None = ⊥
+BundledIf (Some bundle) (Some ls) = Bundled bundle ls

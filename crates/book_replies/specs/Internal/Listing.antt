@@ -1,15 +1,15 @@
 -- Which records are listed: the live ones, or the pending ones.
-use Rattle.std.specs.Prelude.{Bool, true, false, not, List}
+use Rattle.std.specs.Prelude.{Bool, not, List, filter}
+use Rattle.book.specs.declared.circuits.RecordState.{RecordState}
+use Rattle.book.specs.declared.circuits.RecordState.TheVariants.{Live, Pending}
 use Rattle.book.specs.declared.circuits.Circuit.{Circuit}
 use Rattle.book.specs.Circuits.{is_live}
-use Rattle.book.specs.Books.{live_in, pending_in}
 
--- a record is
-abbrev pub is_listed : Bool → Circuit → Bool
-is_listed true c = is_live c
-is_listed false c = not (is_live c)
+-- a record is in this state
+abbrev pub is_listed : RecordState → Circuit → Bool
+is_listed Live c = is_live c
+is_listed Pending c = not (is_live c)
 
 -- those of some records that are
-abbrev pub listed : Bool → List Circuit → List Circuit
-listed true cs = live_in cs
-listed false cs = pending_in cs
+abbrev pub listed : RecordState → List Circuit → List Circuit
+listed state cs = filter (is_listed state) cs

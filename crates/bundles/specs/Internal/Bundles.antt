@@ -1,6 +1,6 @@
 -- Lines on their way into a bundle.
 use Rattle.std.specs.Prelude.{◌≤◌, ◌<◌, ◌≡◌, List, length, take}
-use Rattle.bundles.specs.declared.bundles.Line.{Line}
+use Rattle.book.specs.declared.grants.Line.{Line}
 use Rattle.bundles.specs.declared.bundles.Bundle.{Bundle}
 
 -- the bundle has these lines; where they are too many, it says no more than that

@@ -1,30 +1,19 @@
-use mathlib.Core.Path.{sym, ◌∙◌}
 use native.Mathlib.Omega.{arith}
-use Rattle.ring.proofs.Cases.{impossible}
+use mathlib.Core.Path.{sym}
 use Rattle.ring.proofs.FateLaws.{within_served}
 use Rattle.checker.proofs.PlacingLaws.{placed_blocked, placed_served}
 use Rattle.checker.proofs.place.Goals as goal
 
-pub returns-then-number-gt256 : goal.returns-then-number-gt256
-returns-then-number-gt256 c = λ e. impossible (sym e)
-
 pub returns-in_default : goal.returns-in_default
-returns-in_default c = λ e. (omega arith, placed_blocked _ _ _ (sym c.fate_of-fate.ensures ∙ c.in_default.is))
+returns-in_default c = λ e. (omega arith, placed_blocked _ _ _ (sym c.in_default.ensures))
 
 pub hold-requires : goal.hold-requires
-hold-requires c = (
-  c.requires.0,
-  record {
-    ordered = c.requires.1;
-    nodes = c.requires.2;
-    colours = within_served c.args.number 128 _ _ (sym c.fate_of-fate.ensures
-        ∙ c.in-Served.is) (omega arith);
-  },
-)
+hold-requires c =
+    record {
+      ordered = c.requires.0;
+      nodes = c.requires.1;
+      colours = rw c.from-2.ensures (within_served c.args.number 128 _ _ (sym c.in-Served.ensures) (omega arith));
+    }
 
 pub returns : goal.returns
-returns c = λ e. (
-  omega arith,
-  placed_served _ _ _ _ _ _ (sym c.fate_of-fate.ensures
-      ∙ c.in-Served.is) (rw e at c.hold.ensures),
-)
+returns c = λ e. (omega arith, placed_served _ _ _ _ _ _ (sym c.in-Served.ensures) (rw (c.from-2.ensures, e) at c.hold.ensures))

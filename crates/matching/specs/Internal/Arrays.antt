@@ -1,18 +1,10 @@
--- The arrays of a search, as one thing.
+-- The arrays of a search where none is under way.
 use Rattle.std.specs.Prelude.{ℕ, List, replicate}
-
--- mates: an exposed request is its own mate. labels: 0 free, 1 even, 2 odd; 3 and 4 are even and odd for good.
--- bases: of the even ones; parents: of the odd ones; queue: the even ones in the order in which they became so, clock many.
-pub record Arrays : Type 0 where
-  pub mates : List ℕ
-  pub labels : List ℕ
-  pub bases : List ℕ
-  pub parents : List ℕ
-  pub queue : List ℕ
-  pub clock : ℕ
+use Rattle.matching.specs.declared.labels.VertexLabel.{VertexLabel}
+use Rattle.matching.specs.declared.matchings.Search.{Search}
 
 -- between two searches: no parents, and nothing queued
-abbrev pub rest : List ℕ → List ℕ → List ℕ → Arrays
+abbrev pub rest : List ℕ → List VertexLabel → List ℕ → Search
 rest mates labels bases = record {
   mates = mates;
   labels = labels;
@@ -20,15 +12,4 @@ rest mates labels bases = record {
   parents = replicate 512 0;
   queue = replicate 512 0;
   clock = 0;
-}
-
--- the arrays by their names
-abbrev pub arrays : List ℕ → List ℕ → List ℕ → List ℕ → List ℕ → ℕ → Arrays
-arrays mates labels bases parents queue clock = record {
-  mates = mates;
-  labels = labels;
-  bases = bases;
-  parents = parents;
-  queue = queue;
-  clock = clock;
 }

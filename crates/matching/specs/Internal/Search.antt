@@ -6,12 +6,12 @@ use Rattle.blossom.specs.Internal.Labels.{Label, Even, Odd, even?}
 use Rattle.blossom.specs.Internal.State.{State}
 use Rattle.blossom.specs.Internal.Searches.{Searching, Scanning}
 use Rattle.blossom.specs.Internal.Certificate.{BetweenSearches}
-use Rattle.matching.specs.Internal.Arrays.{Arrays}
+use Rattle.matching.specs.declared.matchings.Search.{Search}
 use Rattle.matching.specs.Internal.Adjacency.{adjacent}
 use Rattle.matching.specs.Internal.Model.{entry, row_at, label_at, settled_at, among}
 
 -- the sizes of the arrays, that there are requests for no more than their places, and that a base is a request
-pub record Sized (R : List Request) (s : Arrays) : Type 0 where
+pub record Sized (R : List Request) (s : Search) : Type 0 where
   pub few : length R ≤ 512
   pub mates : length s.mates ≡ 512
   pub labels : length s.labels ≡ 512
@@ -26,7 +26,7 @@ pub record Square (m : ℕ) (rows : List (List ℕ)) : Type 0 where
   pub wide : (i : ℕ) → i < m → length (get_or rows i []) ≡ 512
 
 -- between two searches: every exposed vertex below n is frozen
-pub record Settled (R : List Request) (s : Arrays) (n : ℕ) : Type 0 where
+pub record Settled (R : List Request) (s : Search) (n : ℕ) : Type 0 where
   pub sized : Sized R s
   pub label : ℕ → Label
   pub base : ℕ → ℕ
@@ -35,7 +35,7 @@ pub record Settled (R : List Request) (s : Arrays) (n : ℕ) : Type 0 where
   pub between : BetweenSearches (adjacent R) (entry (length R) s.mates) label base n
 
 -- the arrays and the rows stand for a state: parents where a vertex is odd, rows where it is even; the queue has the even ones
-pub record Stands (R : List Request) (s : Arrays) (rows : List (List ℕ)) (state : State) : Type 0 where
+pub record Stands (R : List Request) (s : Search) (rows : List (List ℕ)) (state : State) : Type 0 where
   pub label_is : (z : ℕ) → state.label z ≡ label_at (length R) s.labels z
   pub base_is : (z : ℕ) → state.base z ≡ entry (length R) s.bases z
   pub parent_is : (z : ℕ) → state.label z ≡ Odd → state.parent z ≡ entry (length R) s.parents z
@@ -45,7 +45,7 @@ pub record Stands (R : List Request) (s : Arrays) (rows : List (List ℕ)) (stat
   pub queued : (z : ℕ) → even? (state.label z) ≡ among s.queue s.clock z
 
 -- during a search from r: the state, and the labels and bases of what earlier searches froze
-pub record Standing (R : List Request) (r : ℕ) (s : Arrays) (rows : List (List ℕ)) : Type 0 where
+pub record Standing (R : List Request) (r : ℕ) (s : Search) (rows : List (List ℕ)) : Type 0 where
   pub sized : Sized R s
   pub square : Square (length R) rows
   pub frozen_label : ℕ → Label
@@ -56,7 +56,7 @@ pub record Standing (R : List Request) (r : ℕ) (s : Arrays) (rows : List (List
   pub stands : Stands R s rows state
 
 -- the first h vertices of the queue are scanned
-pub record SearchAt (R : List Request) (r : ℕ) (s : Arrays) (rows : List (List ℕ)) (h : ℕ) : Type 0 where
+pub record SearchAt (R : List Request) (r : ℕ) (s : Search) (rows : List (List ℕ)) (h : ℕ) : Type 0 where
   pub standing : Standing R r s rows
   pub scanned : ℕ → Bool
   pub scanned_is : (z : ℕ) → scanned z ≡ among s.queue h z
@@ -65,7 +65,7 @@ pub record SearchAt (R : List Request) (r : ℕ) (s : Arrays) (rows : List (List
       scanned
 
 -- and x, the next one in the queue, is being scanned: the vertices below n have been looked at
-pub record ScanAt (R : List Request) (r : ℕ) (s : Arrays) (rows : List (List ℕ)) (h x n : ℕ) : Type 0 where
+pub record ScanAt (R : List Request) (r : ℕ) (s : Search) (rows : List (List ℕ)) (h x n : ℕ) : Type 0 where
   pub standing : Standing R r s rows
   pub scanned : ℕ → Bool
   pub scanned_is : (z : ℕ) → scanned z ≡ among s.queue h z
@@ -75,7 +75,7 @@ pub record ScanAt (R : List Request) (r : ℕ) (s : Arrays) (rows : List (List �
       scanned x n
 
 -- after a part of a search from r: either it has enlarged the matching, which covers r now, or it goes on as `Going` says
-pub record SearchOutcome (R : List Request) (r : ℕ) (s : Arrays) (rows : List (List ℕ)) (done : Bool) (Going : Type 0) : Type 0 where
+pub record SearchOutcome (R : List Request) (r : ℕ) (s : Search) (rows : List (List ℕ)) (done : Bool) (Going : Type 0) : Type 0 where
   pub square : Square (length R) rows
   pub enlarged : done ≡ true → Settled R s (suc r)
   pub going : done ≡ false → Going

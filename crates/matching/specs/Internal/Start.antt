@@ -1,5 +1,5 @@
 -- What the functions of the greedy start promise.
-use Rattle.std.specs.Prelude.{ℕ, zero, suc, ◌+◌, ◌<◌, ◌≤◌, max, ◌≡◌, true, ◌||◌, List, eqb, length, get_or}
+use Rattle.std.specs.Prelude.{ℕ, zero, suc, ◌<◌, ◌≤◌, max, ◌≡◌, true, List, length, get_or, take, sum_by}
 use Rattle.std.specs.Int.Count.{ones}
 use Rattle.ring.specs.declared.requests.Request.{Request}
 use Rattle.neighbours.specs.Neighbours.{Neighbours}
@@ -7,10 +7,9 @@ use Rattle.blossom.specs.Internal.Rows.{Mates}
 use Rattle.matching.specs.Internal.Adjacency.{adjacent}
 use Rattle.matching.specs.Internal.Model.{entry}
 
--- how many bits of the first words are set
-abbrev pub bits_set : List ℕ → ℕ → ℕ
-bits_set words zero = 0
-bits_set words (suc k) = bits_set words k + ones (get_or words k 0)
+-- how many bits of some words are set
+abbrev pub bits_set : List ℕ → ℕ
+bits_set words = sum_by ones words
 
 -- the largest of the first m numbers of a list, or 0
 abbrev pub largest_of : List ℕ → ℕ → ℕ
@@ -20,7 +19,7 @@ largest_of l (suc i) = max (largest_of l i) (get_or l i 0)
 -- for each of m requests, how many bits its set of neighbours has in the first words, and the largest of these sizes. The bits from m on
 -- are left open: all that they can change is the order in which requests are matched.
 pub record Measured (R : List Request) (m words : ℕ) (sizes : List ℕ) (largest : ℕ) : Type 0 where
-  pub each : (i : ℕ) → i < m → (set : List ℕ) × Neighbours R i set × (get_or sizes i 0 ≡ bits_set set words)
+  pub each : (i : ℕ) → i < m → (set : List ℕ) × Neighbours R i set × (get_or sizes i 0 ≡ bits_set (take words set))
   pub largest_is : largest ≡ largest_of sizes m
 
 -- every number at its own place
@@ -34,8 +33,9 @@ pub record Matched (R : List Request) (mates : List ℕ) : Type 0 where
   pub places : length mates ≡ 512
   pub mates_are : Mates (adjacent R) (entry (length R) mates)
 
--- i is exposed, and j is an exposed request that is adjacent to i, or i itself
+-- j is an exposed request that is adjacent to i
 pub record Partner (R : List Request) (mates : List ℕ) (i j : ℕ) : Type 0 where
   pub inside : j < length R
   pub exposed : get_or mates j 0 ≡ j
-  pub fits : (eqb j i || adjacent R i j) ≡ true
+  pub apart : j ≡ i → ⊥
+  pub fits : adjacent R i j ≡ true

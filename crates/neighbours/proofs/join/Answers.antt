@@ -1,15 +1,9 @@
-use mathlib.Core.Path.{◌≡◌}
 use native.Mathlib.Omega.{arith}
 use Rattle.neighbours.proofs.NodeSetLaws.{join_start, join_turn}
 use Rattle.neighbours.proofs.join.Goals as goal
 
 pub loop-k-init : goal.loop-k-init
-loop-k-init c = (omega arith, join_start _ _ c.requires.0)
+loop-k-init c = join_start _ _ c.requires.0
 
 pub loop-k-preserved : goal.loop-k-preserved
-loop-k-preserved c = (omega arith, join_turn _ _ _ _ (omega arith) (omega arith) c.loop-k.invariant.1)
-
-pub returns : goal.returns
-returns c =
-    let all : c.loop-k.k ≡ c.args.words = omega arith in
-    rw all at c.loop-k.invariant.1
+loop-k-preserved c = join_turn _ _ _ _ (omega arith) (omega arith) c.loop-k.invariant

@@ -13,7 +13,7 @@ use Rattle.planner.specs.Internal.Writing.{Writable}
 
 -- the first m entries are the chain part's fate numbers, and the counts are those of the chain part and of the matching
 pub record Choosable (n w : ℕ) (ends mates start : List ℕ) (count size : ℕ) : Type 0 where
-  pub writable : Writable n w ends mates start
+  pub writable : Writable (requests_of ends) mates start
   pub table : start ≡ map fate_number (chain_part n w (requests_of ends)) ++ drop (length (requests_of ends)) start
   pub chain : count ≡ served (chain_part n w (requests_of ends))
   pub matched : size ≡ length (pairs_of (length (requests_of ends)) mates)

@@ -39,33 +39,29 @@ abbrev pub written_from : ℕ → ℕ → List Request → ℕ → ℕ → List 
 written_from n w R i c [] table = table
 written_from n w R i c (j ∷ mates) table = written_from n w R (i + 1) (colour_after w i j c) mates (table_after n w R i j c table)
 
--- two requests of the list with entries in the table, the plain way of the first within the n links, and a colour within the limits
-pub record PairFits (n : ℕ) (ends : List ℕ) (i j c : ℕ) (table : List ℕ) : Type 0 where
-  pub first : 2 * i + 1 < length ends
-  pub second : 2 * j + 1 < length ends
-  pub ordered : (request (requests_of ends) i).a ≤ (request (requests_of ends) i).b
-  pub links : (request (requests_of ends) i).b ≤ n
-  pub room_first : i < length table
-  pub room_second : j < length table
-  pub colour : c < 128
-
--- a request, its plain way within the n links, and its mate, which is a request with an entry too where it is the higher one
-pub record MateFits (n w : ℕ) (ends : List ℕ) (i j : ℕ) (table : List ℕ) : Type 0 where
-  pub first : 2 * i + 1 < length ends
-  pub second : i < j → 2 * j + 1 < length ends
-  pub ordered : (request (requests_of ends) i).a ≤ (request (requests_of ends) i).b
-  pub links : (request (requests_of ends) i).b ≤ n
-  pub room_first : i < length table
-  pub room_second : i < j → j < length table
-  pub colours : w ≤ 128
-
--- a list within the limits, mates that are a matching, and a table with an entry for each request
-pub record Writable (n w : ℕ) (ends mates table : List ℕ) : Type 0 where
+-- a ring and a list of requests on it, both within the limits
+pub record Within (n w : ℕ) (ends : List ℕ) : Type 0 where
   pub colours : w ≤ 128
   pub even : length ends ≡ 2 * length (requests_of ends)
   pub valid : ValidRequests n (requests_of ends)
-  pub room : length (requests_of ends) ≤ length table
-  pub matching : IsMatching (requests_of ends) (pairs_of (length (requests_of ends)) mates)
+
+-- two of m requests, a colour within the limits, and a table with an entry for each request
+pub record PairFits (m i j c : ℕ) (table : List ℕ) : Type 0 where
+  pub first : i < m
+  pub second : j < m
+  pub colour : c < 128
+  pub room : m ≤ length table
+
+-- one of m requests, its mate, which is a request too where it is the higher one, and a table with an entry for each
+pub record MateFits (m i j : ℕ) (table : List ℕ) : Type 0 where
+  pub first : i < m
+  pub second : i < j → j < m
+  pub room : m ≤ length table
+
+-- mates that are a matching, and a table with an entry for each request
+pub record Writable (R : List Request) (mates table : List ℕ) : Type 0 where
+  pub room : length R ≤ length table
+  pub matching : IsMatching R (pairs_of (length R) mates)
 
 -- the first m entries are the fate numbers of the pairs, the others stay
 abbrev pub pair_table : ℕ → ℕ → List Request → List ℕ → List ℕ → List ℕ

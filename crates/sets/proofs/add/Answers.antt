@@ -7,5 +7,5 @@ use Rattle.sets.proofs.add.Goals as goal
 pub returns : goal.returns
 returns c =
     let words = c.args.words.now in
-    let inside : c.args.z / 64 < length words = omega (arith, c.requires.1) in
-    (simp length-set c.requires.1, added words c.args.z inside)
+    let inside : c.args.z / 64 < length words = omega (arith, c.told-words) in
+    (simp length-set c.told-words, added words c.args.z inside)

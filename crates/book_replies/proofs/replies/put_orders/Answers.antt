@@ -1,40 +1,41 @@
-use native.Mathlib.Omega.{arith}
-use Rattle.texts.proofs.WritingLaws.{wrote_length}
+use Rattle.std.proofs.Common.{ℕ, ◌∙◌, ap, take, length-take, arith}
+use Rattle.book.proofs.Places.{records_take}
 use Rattle.book_replies.specs.Replies.{order_text}
+use Rattle.book_replies.specs.Internal.Listing.{is_listed}
 use Rattle.book_replies.proofs.ReplyLaws.{order_short}
-use Rattle.book_replies.proofs.ListingLaws.{listed_none, listed_room, listed_next, listed_all}
+use Rattle.book_replies.proofs.ListingLaws.{in_state, listed_room, listed_so, listed_not, listed_all}
 use Rattle.book_replies.proofs.replies.put_orders.Goals as goal
+use Rattle.book_replies.proofs.replies.put_orders.Goals.{then-eq, else-eq}
 
-pub loop-i-init : goal.loop-i-init
-loop-i-init c =
-    let s = c.args in
-    listed_none order_text 32 order_short s.live s.book s.out.now
+pub put_order-requires : goal.put_order-requires
+put_order-requires c =
+    let l = c.loop-circuit in
+    let size = length-take c.record_count.result c.args.book.now.places in
+    listed_room order_text 32 (is_listed c.args.state) _ c.args.writer.now l.circuit-index l.invariant
+    (omega (arith, c.record_count.ensures.1)) c.requires
 
-pub offset_bounds-book-i : goal.offset_bounds-book-i
-offset_bounds-book-i c = omega arith
-
-pub bounds-book-i : goal.bounds-book-i
-bounds-book-i c = omega arith
-
-pub put_listed-next-requires : goal.put_listed-next-requires
-put_listed-next-requires c =
-    listed_room order_text 32 order_short c.args.live c.args.book c.args.out.now c.loop-i.i c.loop-i.invariant
-    (omega arith) c.requires
-
-pub overflow_add-i : goal.overflow_add-i
-overflow_add-i c = omega arith
-
-pub loop-i-smaller : goal.loop-i-smaller
-loop-i-smaller c = omega arith
-
-pub loop-i-preserved : goal.loop-i-preserved
-loop-i-preserved c =
-    listed_next order_text 32 order_short c.args.live c.args.book c.args.out.now c.loop-i.i c.loop-i.invariant (omega arith)
-    c.put_listed-next.ensures
-
-pub shape_of-out : goal.shape_of-out
-shape_of-out c = wrote_length c.loop-i.invariant.wrote
+pub loop-circuit-preserved : goal.loop-circuit-preserved
+loop-circuit-preserved c =
+    let l = c.loop-circuit in
+    let p = is_listed c.args.state in
+    let cs = take c.record_count.result c.args.book.now.places in
+    elim c.if-eq.branch [
+      | then-eq w ↦
+          rw w.writer-is
+          (listed_so order_text 32 p cs c.args.writer.now l.circuit-index l.invariant c.loop-circuit-test.true
+          (in_state c.args.state _ w.if-eq.ensures) (order_short _) w.put_order.ensures)
+      | else-eq w ↦
+          rw w.writer-is
+          (listed_not order_text 32 p cs c.args.writer.now l.circuit-index l.invariant c.loop-circuit-test.true
+          (in_state c.args.state _ w.if-eq.ensures))
+    ]
 
 pub returns : goal.returns
 returns c =
-    listed_all order_text 32 order_short c.args.live c.args.book c.args.out.now c.loop-i.i c.loop-i.invariant (omega arith)
+    let b = c.args.book.now in
+    let l = c.loop-circuit in
+    let size = length-take c.record_count.result b.places in
+    let all = ap (λ (k : ℕ). take k b.places) c.record_count.ensures.0 ∙ records_take b in
+    rw (← all)
+    (listed_all order_text 32 (is_listed c.args.state) _ c.args.writer.now l.circuit-index l.invariant c.loop-circuit-test.false
+    (omega (arith, c.record_count.ensures.1)) c.requires)

@@ -1,44 +1,22 @@
-use native.Mathlib.Omega.{arith}
-use lib.ListN.{length-take}
-use lib.Seq.{get_or-take}
-use Rattle.texts.proofs.WritingLaws.{wrote_length}
-use Rattle.bundles.specs.Previews.{serials_of}
-use Rattle.book_replies.proofs.ReplyLaws.{written_none, written_room, written_next, written_all}
+use Rattle.std.proofs.Common.{◌≤◌, ◌*◌, take, length, length-take, arith}
+use Rattle.texts.proofs.WritingLaws.{wrote_then, wrote_none}
+use Rattle.book_replies.specs.Replies.{serials_text}
+use Rattle.book_replies.proofs.ReplyLaws.{serials_short, serials_next}
 use Rattle.book_replies.proofs.replies.put_serials.Goals as goal
 
-pub loop-done-init : goal.loop-done-init
-loop-done-init c =
-    let room = c.requires in
-    written_none (serials_of c.args.preview) c.args.out.now c.args.at (omega arith)
+pub loop-serial-init : goal.loop-serial-init
+loop-serial-init c = wrote_none _ (omega arith)
 
-pub offset_bounds-preview-done : goal.offset_bounds-preview-done
-offset_bounds-preview-done c = omega arith
+pub labelled-requires : goal.labelled-requires
+labelled-requires c =
+    let items = take c.min.result c.args.preview.now.serials in
+    let done = take c.loop-serial.serial-index items in
+    let sizes : length (serials_text done) ≤ 6 * length done = serials_short done in
+    let count = length-take c.min.result c.args.preview.now.serials in
+    let front = length-take c.loop-serial.serial-index items in
+    omega (arith, c.min.ensures, c.loop-serial.invariant.follows, c.loop-serial.invariant.kept)
 
-pub bounds-preview-done : goal.bounds-preview-done
-bounds-preview-done c = omega arith
-
-pub put_labelled-next-requires : goal.put_labelled-next-requires
-put_labelled-next-requires c =
-    let s = c.args in
-    written_room (serials_of s.preview) s.out.now s.at c.loop-done.done c.loop-done.invariant (omega arith) c.requires
-
-pub overflow_add-done : goal.overflow_add-done
-overflow_add-done c = omega arith
-
-pub loop-done-smaller : goal.loop-done-smaller
-loop-done-smaller c = omega arith
-
-pub loop-done-preserved : goal.loop-done-preserved
-loop-done-preserved c =
-    let s = c.args in
-    let p = s.preview in
-    let within = length-take p.count p.serials in
-    written_next (serials_of p) s.out.now s.at c.loop-done.done c.loop-done.invariant (omega arith)
-    (rw (get_or-take p.count p.serials c.loop-done.done 0 (omega arith)) c.put_labelled-next.ensures)
-
-pub shape_of-out : goal.shape_of-out
-shape_of-out c = wrote_length c.loop-done.invariant.wrote
-
-pub returns : goal.returns
-returns c =
-    written_all (serials_of c.args.preview) c.args.out.now c.args.at c.loop-done.done c.loop-done.invariant (omega arith)
+pub loop-serial-preserved : goal.loop-serial-preserved
+loop-serial-preserved c =
+    rw (serials_next (take c.min.result c.args.preview.now.serials) c.loop-serial.serial-index c.loop-serial-test.true)
+    (wrote_then c.loop-serial.invariant c.labelled.ensures)

@@ -1,11 +1,8 @@
--- The loop's invariant: so many serials are written.
-use Prim.Native.Nat.{◌-◌}
-use Rattle.bundles.specs.Previews.{serials_of}
-use Rattle.book_replies.proofs.ReplyLaws.{Written}
+-- The loop's invariant: the serials so far are written.
+use Rattle.std.proofs.Common.{take}
+use Rattle.texts.specs.Internal.Writing.{Wrote}
+use Rattle.book_replies.specs.Replies.{serials_text}
 use Rattle.book_replies.proofs.replies.put_serials.Given as goal
 
-abbrev pub invariant-loop-done : goal.invariant-loop-done
-invariant-loop-done l = Written (serials_of l.preview) l.initial.out l.at l.done l.out l.next
-
-abbrev pub decreases-loop-done : goal.decreases-loop-done
-decreases-loop-done l = l.count - l.done
+abbrev pub invariant-loop-serial : goal.invariant-loop-serial
+invariant-loop-serial l = Wrote l.initial.writer (serials_text (take l.serial-index l.serial-items)) l.writer

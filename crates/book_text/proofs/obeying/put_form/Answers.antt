@@ -1,12 +1,21 @@
-use native.Mathlib.Omega.{arith}
-use Rattle.book_text.proofs.ObeyLaws.{form_refused, form_put}
+use Rattle.std.proofs.Common.{◌≡◌, ◌∙◌, refl, arith}
+use Rattle.stored.specs.declared.forms.Form.TheVariants.{New}
+use Rattle.stored.specs.Storing.{length_of}
+use Rattle.book_text.proofs.ObeyLaws.{form_stored, form_told}
 use Rattle.book_text.proofs.obeying.put_form.Goals as goal
 
-pub returns-in_default : goal.returns-in_default
-returns-in_default c =
-    form_refused c.args.book (omega arith) c.args.form.now c.requires c.write_form-answer.ensures.0 c.in_default.is
+pub unwrap-requires : goal.unwrap-requires
+unwrap-requires c =
+    let e = c.write_form.ensures in
+    let stored = form_stored c.args.book.now c.args.form.now e.2 c.requires e.0 in
+    rw stored refl
 
 pub returns : goal.returns
 returns c =
-    form_put c.args.book (omega arith) c.args.form.now c.requires
-    c.write_form-answer.ensures.0 c.in-Stored.is c.write_form-answer.ensures.1
+    let e = c.write_form.ensures in
+    let stored = form_stored c.args.book.now c.args.form.now e.2 c.requires e.0 in
+    let size : c.unwrap.result ≡ length_of New c.args.book.now = cc in
+    record {
+      told = form_told c.args.book.now c.args.form.now e.2 c.requires (c.from.ensures ∙ size) e.1;
+      within = let kept = c.write_form.auto in omega (arith, e.2, size, c.from.ensures);
+    }

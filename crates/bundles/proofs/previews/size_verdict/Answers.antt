@@ -1,7 +1,7 @@
-use mathlib.Core.Path.{◌∙◌}
+use Rattle.std.proofs.Common.{rules}
 use Rattle.bundles.specs.Previews.{size_verdict}
 use Rattle.bundles.proofs.previews.size_verdict.Goals as goal
 
 pub returns : goal.returns
 unfolding size_verdict
-returns c = c.refuse_if.ensures ∙ simp c.either.ensures
+returns c = search rules

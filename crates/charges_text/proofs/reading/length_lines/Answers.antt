@@ -1,52 +1,21 @@
-use Prim.Native.Nat.{◌+◌, ◌-◌}
-use mathlib.Core.Path.{◌≡◌, refl, ◌∙◌}
+use mathlib.Core.Path.{◌≡◌, ◌∙◌}
+use mathlib.Core.List.{[]}
 use native.Mathlib.Omega.{arith}
-use native.Mathlib.Numerals.{unary_clauses}
-use lib.ListN.{length, drop, length-set, length-drop}
-use Rattle.texts.proofs.FieldLaws.{long_found, long_lost}
-use Rattle.charges_text.proofs.ReadLaws.{lengths_turn, lengths_broken, lengths_ended}
+use lib.ListN.{length, length-set}
+use Rattle.std.proofs.Common.{rules}
+use Rattle.texts.proofs.FieldLaws.{long_shorter}
+use Rattle.charges_text.proofs.ReadLaws.{lengths_turn}
 use Rattle.charges_text.proofs.reading.length_lines.Goals as goal
 
-pub loop-next-init : goal.loop-next-init
-loop-next-init c = (omega arith, omega arith, refl, simp unary_clauses refl)
-
-pub returns-in_default : goal.returns-in_default
-returns-in_default c =
-    let l = c.loop-next in
-    let size = length-drop c.args.at c.args.text.now in
-    record {
-      same = lengths_broken c.args.text.now l.next (length (drop c.args.at c.args.text.now) - l.count)
-          c.loop-next-test.true (omega arith) _
-          (long_lost c.long_field-found.ensures c.in_default.is) ∙ l.invariant.3;
-      fits = tt;
-    }
-
-pub bounds-buffer-count : goal.bounds-buffer-count
-bounds-buffer-count c =
-    let found = long_found c.long_field-found.ensures c.in-Found.is in
+pub loop-reader-smaller : goal.loop-reader-smaller
+loop-reader-smaller c =
+    let shorter = long_shorter _ _ c.in_ok-buffer.ensures in
     omega arith
 
-pub loop-next-smaller : goal.loop-next-smaller
-loop-next-smaller c =
-    let found = long_found c.long_field-found.ensures c.in-Found.is in
-    omega arith
-
-pub loop-next-preserved : goal.loop-next-preserved
-loop-next-preserved c =
-    let l = c.loop-next in
-    let found = long_found c.long_field-found.ensures c.in-Found.is in
-    let size = length-drop c.args.at c.args.text.now in
-    let left = length (drop c.args.at c.args.text.now) in
-    let fewer : left - (l.count + 1) ≡ left - l.count - 1 = omega arith in
-    let turn = lengths_turn c.args.text.now l.next (left - l.count) c.loop-next-test.true
-    (omega arith) l.buffer l.count c.in-Found.metres c.in-Found.behind (omega arith) found.0 in
-    (omega arith, found.1.1, simp length-set l.invariant.2, rw fewer (turn ∙ l.invariant.3))
-
-pub returns : goal.returns
-returns c =
-    let l = c.loop-next in
-    record {
-      same = lengths_ended _ c.args.text.now l.next (length (drop c.args.at c.args.text.now) - l.count)
-          c.loop-next-test.false ∙ l.invariant.3;
-      fits = omega arith;
-    }
+pub loop-reader-preserved : goal.loop-reader-preserved
+loop-reader-preserved c =
+    let here = c.loop-reader in
+    let shorter = long_shorter _ _ c.in_ok-buffer.ensures in
+    let more : here.reader ≡ [] → ⊥ = search rules in
+    let turn = lengths_turn here.buffer here.reader here.count (length c.args.reader.now) more (omega arith) (omega arith) c.in_ok-buffer.ensures in
+    (omega arith, simp length-set here.invariant.1, turn ∙ here.invariant.2)

@@ -1,10 +1,13 @@
-use Rattle.texts.proofs.OutputLaws.{output_short, output_written}
-use Rattle.check_text.proofs.AnswerLaws.{line_told}
+use mathlib.Core.Path.{ap}
+use Rattle.std.proofs.Common.{rules}
+use Rattle.texts.proofs.OutputLaws.{output_written}
+use Rattle.check_text.specs.Promise.{line_for}
+use Rattle.check_text.specs.Verdict.{verdict_line}
 use Rattle.check_text.proofs.answers.answer.Goals as goal
 
-pub returns-then-out-lt32 : goal.returns-then-out-lt32
-returns-then-out-lt32 c = output_short 32 _ _ c.if-out-lt32.true
-
 pub returns : goal.returns
+unfolding line_for
 returns c =
-    output_written c.if-out-lt32.false (line_told _ c.text_answer.ensures) c.put_verdict.ensures
+    let line = ap verdict_line c.text_answer.ensures in
+    let out = output_written {least = 32} c.if-out-lt32.false line c.new-writer.ensures.begun c.put_verdict.ensures in
+    search rules

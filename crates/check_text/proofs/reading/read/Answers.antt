@@ -1,40 +1,37 @@
+use mathlib.Core.Path.{sym, ap}
 use native.Mathlib.Omega.{arith}
-use Rattle.plan_text.proofs.LineLaws.{heading_inside, lines_are}
-use Rattle.check_text.proofs.TableLaws.{read_long, read_no_heading, read_no_ends, read_no_table, read_followed, read_whole}
+use lib.ListN.{length}
+use lib.Seq.{length-take-le}
+use Rattle.plan_text.proofs.LineLaws.{heading_shorter}
 use Rattle.check_text.proofs.reading.read.Goals as goal
 
-pub returns-then-text-gt16384 : goal.returns-then-text-gt16384
-returns-then-text-gt16384 c = read_long _ _ _ (omega arith)
+pub request_lines-requires : goal.request_lines-requires
+request_lines-requires c =
+    let shorter = heading_shorter _ c.in_ok-n.ensures in
+    let size = ap length c.new-reader.ensures in
+    omega arith
 
-pub returns-in_default : goal.returns-in_default
-returns-in_default c = read_no_heading c.if-text-gt16384.false c.heading-first.ensures c.in_default.is
-
-pub request_lines-requests-requires : goal.request_lines-requests-requires
-request_lines-requests-requires c =
-    record { inside = heading_inside c.heading-first.ensures c.in-Numbers.is; room = omega arith }
-
-pub returns-in_default-requests : goal.returns-in_default-requests
-returns-in_default-requests c =
-    read_no_ends c.if-text-gt16384.false c.heading-first.ensures c.in-Numbers.is c.request_lines-requests.ensures
-    c.in_default-requests.is
-
-pub table_lines-fates-requires : goal.table_lines-fates-requires
-table_lines-fates-requires c =
-    let short = c.if-text-gt16384.false in
+pub table_lines-requires : goal.table_lines-requires
+table_lines-requires c =
+    let shorter = heading_shorter _ c.in_ok-n.ensures in
+    let size = ap length c.new-reader.ensures in
+    let fits = c.in_ok-request_lines.ensures.fits in
     let room = c.requires.1 in
-    record { inside = (lines_are c.request_lines-requests.ensures c.in-All.is).1.1; room = omega arith }
+    omega arith
 
-pub returns-in_default-fates : goal.returns-in_default-fates
-returns-in_default-fates c =
-    read_no_table c.if-text-gt16384.false c.heading-first.ensures c.in-Numbers.is c.request_lines-requests.ensures
-    c.in-All.is c.table_lines-fates.ensures c.in_default-fates.is
+pub slice_bounds-result-end : goal.slice_bounds-result-end
+slice_bounds-result-end c =
+    let shorter = heading_shorter _ c.in_ok-n.ensures in
+    let size = ap length c.new-reader.ensures in
+    let fits = c.in_ok-request_lines.ensures.fits in
+    let room = c.requires.0 in
+    sym (length-take-le _ _ (omega arith))
 
-pub returns-then-behind-text : goal.returns-then-behind-text
-returns-then-behind-text c =
-    read_followed c.if-text-gt16384.false c.heading-first.ensures c.in-Numbers.is c.request_lines-requests.ensures
-    c.in-All.is c.table_lines-fates.ensures c.in-All-fates.is c.if-behind-text.true
-
-pub returns : goal.returns
-returns c =
-    read_whole c.if-text-gt16384.false c.heading-first.ensures c.in-Numbers.is c.request_lines-requests.ensures
-    c.in-All.is c.table_lines-fates.ensures c.in-All-fates.is c.if-behind-text.false
+pub slice_bounds-result-end-2 : goal.slice_bounds-result-end-2
+slice_bounds-result-end-2 c =
+    let shorter = heading_shorter _ c.in_ok-n.ensures in
+    let size = ap length c.new-reader.ensures in
+    let ends = c.in_ok-request_lines.ensures.fits in
+    let fits = c.in_ok-table_lines.ensures.fits in
+    let room = c.requires.1 in
+    sym (length-take-le _ _ (omega arith))

@@ -1,37 +1,18 @@
-use mathlib.Core.Path.{refl, ◌∙◌}
+use mathlib.Core.Path.{◌∙◌}
 use native.Mathlib.Omega.{arith}
 use lib.ListN.{length-set}
-use Rattle.texts.proofs.FieldLaws.{field_found, field_lost}
-use Rattle.check_text.proofs.TableLaws.{table_turn, table_broken, table_ended}
+use Rattle.texts.proofs.FieldLaws.{field_shorter}
+use Rattle.check_text.proofs.TableLaws.{table_turn}
 use Rattle.check_text.proofs.reading.table_lines.Goals as goal
 
-pub loop-left-init : goal.loop-left-init
-loop-left-init c = (omega arith, omega arith, refl, refl)
-
-pub returns-in_default : goal.returns-in_default
-returns-in_default c =
-    let here = c.loop-left in
-    let none = field_lost c.field-found.ensures c.in_default.is in
-    record {
-      same = table_broken _ c.args.text.now here.left here.next c.loop-left-test.true none
-          ∙ here.invariant.3;
-      fits = tt;
-    }
-
-pub bounds-buffer-count : goal.bounds-buffer-count
-bounds-buffer-count c =
-    let found = field_found c.field-found.ensures c.in-Found.is in
+pub bounds-buffer-i : goal.bounds-buffer-i
+bounds-buffer-i c =
+    let shorter = field_shorter _ _ c.in_ok-buffer.ensures in
     omega arith
 
-pub loop-left-preserved : goal.loop-left-preserved
-loop-left-preserved c =
-    let here = c.loop-left in
-    let found = field_found c.field-found.ensures c.in-Found.is in
-    let turn = table_turn here.buffer c.args.text.now here.count here.left here.next c.in-Found.number c.in-Found.behind
-    c.loop-left-test.true (omega arith) found.0 in
-    (omega arith, found.1.1, simp length-set here.invariant.2, turn ∙ here.invariant.3)
-
-pub returns : goal.returns
-returns c =
-    let here = c.loop-left in
-    record { same = table_ended _ _ here.left c.loop-left-test.false ∙ here.invariant.3; fits = (here.invariant.0, here.invariant.1) }
+pub loop-i-preserved : goal.loop-i-preserved
+loop-i-preserved c =
+    let here = c.loop-i in
+    let shorter = field_shorter _ _ c.in_ok-buffer.ensures in
+    let turn = table_turn here.buffer _ here.i c.args.m (omega arith) (omega arith) c.in_ok-buffer.ensures in
+    (omega arith, simp length-set here.invariant.1, turn ∙ here.invariant.2)

@@ -1,16 +1,12 @@
-use Prim.Native.Nat.{◌*◌, ◌≤◌}
+use Prim.Native.Nat.{◌+◌, ◌*◌, ◌-◌, ◌≤◌}
 use mathlib.Core.Path.{◌≡◌}
 use mathlib.Core.List.{[]}
-use lib.ListN.{length, take, drop}
+use lib.ListN.{length, take}
 use Rattle.check_text.specs.Reading.{numbers_from}
 use Rattle.check_text.proofs.reading.table_lines.Given as goal
 
-abbrev pub invariant-loop-left : goal.invariant-loop-left
-invariant-loop-left l =
-    (2 * l.count ≤ l.next)
-    × (l.next ≤ length l.text)
+abbrev pub invariant-loop-i : goal.invariant-loop-i
+invariant-loop-i l =
+    (2 * l.i + length l.reader ≤ length l.initial.reader)
     × (length l.buffer ≡ length l.initial.buffer)
-    × (numbers_from (take l.count l.buffer) l.left (drop l.next l.text) ≡ numbers_from [] l.m (drop l.at l.text))
-
-abbrev pub decreases-loop-left : goal.decreases-loop-left
-decreases-loop-left l = l.left
+    × (numbers_from (take l.i l.buffer) (l.m - l.i) l.reader ≡ numbers_from [] l.m l.initial.reader)

@@ -1,4 +1,3 @@
-use Prim.Native.Nat.{◌-◌, ◌≤◌}
 use mathlib.Core.Path.{◌≡◌}
 use lib.ListN.{length}
 use Rattle.matching.specs.Internal.Labelling.{frozen}
@@ -6,7 +5,4 @@ use Rattle.matching.proofs.LabellingLaws.{Relabelling}
 use Rattle.matching.proofs.labels.freeze.Given as goal
 
 abbrev pub invariant-loop-z : goal.invariant-loop-z
-invariant-loop-z l = (l.z ≤ l.m) × (length l.labels ≡ 512) × Relabelling frozen l.initial.labels l.labels l.z
-
-abbrev pub decreases-loop-z : goal.decreases-loop-z
-decreases-loop-z l = l.m - l.z
+invariant-loop-z l = (length l.labels ≡ 512) × Relabelling frozen l.initial.labels l.labels l.z

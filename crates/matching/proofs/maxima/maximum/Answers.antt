@@ -1,16 +1,14 @@
-use mathlib.Core.Path.{sym}
-use Rattle.ring.proofs.RequestLaws.{requests_length}
+use mathlib.Core.Path.{refl, ◌∙◌}
 use Rattle.matching.proofs.SettledLaws.{maximum_reached}
 use Rattle.matching.proofs.maxima.maximum.Goals as goal
 
-pub start-first-requires : goal.start-first-requires
-start-first-requires c = (
-  sym (requests_length c.args.ends.now),
-  record { valid = c.requires; prefixes = c.prefixes.ensures },
-)
+pub prefixes-requires : goal.prefixes-requires
+prefixes-requires c = (c.requires, refl)
+
+pub new-graph-requires : goal.new-graph-requires
+new-graph-requires c = (c.requires, c.prefixes.ensures)
 
 pub returns : goal.returns
 returns c =
-    maximum_reached c.args.ends.now _ _ _
-    (sym (requests_length c.args.ends.now))
-    c.search_from.ensures.0 c.search_from.ensures.1
+    let found = c.search_from.ensures in
+    rw (← c.new-graph.ensures) (maximum_reached _ _ found.0 (found.1 ∙ c.new-graph.result.counted))

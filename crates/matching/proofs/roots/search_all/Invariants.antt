@@ -9,8 +9,8 @@ use Rattle.matching.proofs.roots.search_all.Given as goal
 
 abbrev pub invariant-loop-r : goal.invariant-loop-r
 invariant-loop-r l =
-    Rooted (requests_of l.ends) l.sets l.mates l.labels l.bases l.r l.m × Square l.m l.rows × (length l.parents ≡ 512) × (length l.queue ≡ 512)
-    × (length l.rows ≡ length l.initial.rows)
+    Rooted (requests_of l.graph.ends.now) l.search.mates l.search.labels l.search.bases l.r × Square l.graph.count l.rows
+    × (length l.search.parents ≡ 512) × (length l.search.queue ≡ 512)
 
 abbrev pub decreases-loop-r : goal.decreases-loop-r
-decreases-loop-r l = l.m - l.r
+decreases-loop-r l = l.graph.count - l.r

@@ -1,5 +1,5 @@
--- `search_from`: where no search is due, the state is the answer.
+-- Where no search is due, the state is the answer.
 use Rattle.matching.proofs.roots.search_from.Goals as goal
 
-pub returns-then-matching-m : goal.returns-then-matching-m
-returns-then-matching-m c = (c.requires, c.if-matching-m.true)
+pub returns-then-matching-graph : goal.returns-then-matching-graph
+returns-then-matching-graph c = (c.requires, c.if-matching-graph.true)

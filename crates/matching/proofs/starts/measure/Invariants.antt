@@ -1,5 +1,5 @@
--- `measure`: one request more at each turn, and no set has more than 512 numbers.
-use Prim.Native.Nat.{◌+◌, ◌-◌, ◌/◌, ◌≤◌}
+-- One request more at each turn, and no set has more than 512 numbers.
+use Prim.Native.Nat.{◌≤◌}
 use mathlib.Core.Path.{◌≡◌}
 use lib.ListN.{length}
 use Rattle.ring.specs.Requests.{requests_of}
@@ -8,8 +8,4 @@ use Rattle.matching.proofs.starts.measure.Given as goal
 
 abbrev pub invariant-loop-i : goal.invariant-loop-i
 invariant-loop-i l =
-    (l.i ≤ l.m) × (l.words ≡ (l.m + 63) / 64) × (length l.around ≡ 8) × (l.largest ≤ 512) × (length l.sizes ≡ 512)
-    × Measured (requests_of l.ends) l.i l.words l.sizes l.largest
-
-abbrev pub decreases-loop-i : goal.decreases-loop-i
-decreases-loop-i l = l.m - l.i
+    (l.largest ≤ 512) × (length l.sizes ≡ 512) × Measured (requests_of l.graph.ends.now) l.i l.words l.sizes l.largest

@@ -1,18 +1,27 @@
+use mathlib.Core.Path.{sym}
 use native.Mathlib.Omega.{arith}
-use Rattle.plan_text.proofs.AnswerLaws.{planned_few, printed_refused, printed_planned}
+use lib.Seq.{length-take-le}
+use Rattle.plan_text.proofs.AnswerLaws.{planned_few, printed_unreadable, printed_refused, printed_planned}
 use Rattle.plan_text.proofs.answers.put_answer.Goals as goal
 
-pub put_plan-requires : goal.put_plan-requires
-put_plan-requires c =
-    let few = planned_few c.plan-answer.ensures c.in-Planned.is in
-    record {
-      few = few;
-      entries = omega arith;
-      room = c.requires;
-    }
+pub returns-in_default : goal.returns-in_default
+returns-in_default c = printed_unreadable _ c.in_default.ensures c.number.ensures c.put_refused.ensures
 
-pub returns-in-Refused : goal.returns-in-Refused
-returns-in-Refused c = printed_refused c.plan-answer.ensures c.in-Refused.is c.number.ensures c.put_refused.ensures
+pub slice_bounds-table-end : goal.slice_bounds-table-end
+slice_bounds-table-end c =
+    let few = planned_few c.plan.ensures c.in-Ok.is in
+    omega arith
 
-pub returns-in-Planned : goal.returns-in-Planned
-returns-in-Planned c = printed_planned c.plan-answer.ensures c.in-Planned.is c.put_plan.ensures
+pub slice_bounds-put_plan-end : goal.slice_bounds-put_plan-end
+slice_bounds-put_plan-end c =
+    let few = planned_few c.plan.ensures c.in-Ok.is in
+    sym (length-take-le _ _ (omega arith))
+
+pub returns-in-Ok : goal.returns-in-Ok
+returns-in-Ok c =
+    let few = planned_few c.plan.ensures c.in-Ok.is in
+    printed_planned _ c.in-Some.ensures c.plan.ensures c.in-Ok.is (omega arith) c.put_plan.ensures
+
+pub returns-in-Err : goal.returns-in-Err
+returns-in-Err c = printed_refused _ c.in-Some.ensures c.plan.ensures c.in-Err.is
+    c.number-in-Err.ensures c.put_refused-in-Err.ensures

@@ -1,16 +1,12 @@
-use Prim.Native.Nat.{◌*◌, ◌≤◌}
+use Prim.Native.Nat.{◌+◌, ◌*◌, ◌-◌, ◌≤◌}
 use mathlib.Core.Path.{◌≡◌}
 use mathlib.Core.List.{[]}
-use lib.ListN.{length, take, drop}
+use lib.ListN.{length, take}
 use Rattle.plan_text.specs.Reading.{lines_from}
 use Rattle.plan_text.proofs.reading.request_lines.Given as goal
 
-abbrev pub invariant-loop-left : goal.invariant-loop-left
-invariant-loop-left l =
-    (2 * l.count ≤ l.next)
-    × (l.next ≤ length l.text)
+abbrev pub invariant-loop-i : goal.invariant-loop-i
+invariant-loop-i l =
+    (4 * l.i + length l.reader ≤ length l.initial.reader)
     × (length l.buffer ≡ length l.initial.buffer)
-    × (lines_from (take l.count l.buffer) l.left (drop l.next l.text) ≡ lines_from [] l.m (drop l.at l.text))
-
-abbrev pub decreases-loop-left : goal.decreases-loop-left
-decreases-loop-left l = l.left
+    × (lines_from (take (2 * l.i) l.buffer) (l.m - l.i) l.reader ≡ lines_from [] l.m l.initial.reader)

@@ -1,42 +1,24 @@
-use mathlib.Core.Path.{refl, sym, ◌∙◌}
-use native.Mathlib.Omega.{arith}
+use Rattle.std.proofs.Common.{rules, arith}
 use Rattle.ring.specs.Admission.{list_verdict}
-use Rattle.ring.proofs.AdmissionLaws.{count_limits, second_end, list_refused, list_next, verdicts_ended}
+use Rattle.ring.proofs.AdmissionLaws.{count_limits, verdicts_turn, verdicts_ended}
 use Rattle.ring.proofs.requests.list_verdict.Goals as goal
 
-pub returns-in-Refused : goal.returns-in-Refused
+pub returns-in_err-count_verdict : goal.returns-in_err-count_verdict
 unfolding list_verdict
-returns-in-Refused c = rw (sym c.count_verdict-count.ensures, c.in-Refused.is) refl
-
-pub loop-i-init : goal.loop-i-init
-loop-i-init c = (omega arith, refl, sym c.count_verdict-count.ensures ∙ c.in_default.is)
-
-pub bounds-ends-i-in-loop-i : goal.bounds-ends-i-in-loop-i
-bounds-ends-i-in-loop-i c =
-    let here = c.loop-i in
-    second_end c.args.n here.i c.args.ends.now here.invariant.2 (omega arith) here.invariant.1
+returns-in_err-count_verdict c = search rules
 
 pub overflow_cast-number : goal.overflow_cast-number
-overflow_cast-number c = omega (arith, count_limits _ c.loop-i.invariant.2)
+overflow_cast-number c = omega (arith, count_limits _ c.loop-i.invariant.1)
 
-pub returns-in-Refused-verdict : goal.returns-in-Refused-verdict
-returns-in-Refused-verdict c =
-    let here = c.loop-i in
-    list_refused c.args.n here.i c.args.ends.now here.invariant.2 (omega arith) here.invariant.1 _
-    (sym c.ends_verdict-verdict.ensures ∙ c.in-Refused-verdict.is)
+pub returns-in_err-ends_verdict : goal.returns-in_err-ends_verdict
+unfolding list_verdict
+returns-in_err-ends_verdict c = search (rules, verdicts_turn c.args.n c.loop-i.i c.args.ends.now (omega arith))
 
 pub loop-i-preserved : goal.loop-i-preserved
-loop-i-preserved c =
-    let here = c.loop-i in
-    let second = second_end c.args.n here.i c.args.ends.now here.invariant.2 (omega arith) here.invariant.1 in (
-      omega arith,
-      list_next c.args.n here.i c.args.ends.now here.invariant.2 (omega arith) here.invariant.1
-          (sym c.ends_verdict-verdict.ensures ∙ c.in_default-verdict.is),
-      here.invariant.2,
-    )
+loop-i-preserved c = search (rules, verdicts_turn c.args.n c.loop-i.i c.args.ends.now (omega arith))
 
 pub returns : goal.returns
 unfolding list_verdict
 returns c =
-    let here = c.loop-i in
-    rw here.invariant.2 (sym (verdicts_ended c.args.n here.i c.args.ends.now (omega arith)) ∙ here.invariant.1)
+    let limits = count_limits _ c.loop-i.invariant.1 in
+    search (rules, verdicts_ended c.args.n c.loop-i.i c.args.ends.now (omega (arith, limits.even)))

@@ -1,15 +1,20 @@
-use mathlib.Core.Path.{◌∙◌}
-use Rattle.stored.proofs.LoadLaws.{load_read, load_stopped}
+use Rattle.std.proofs.Common.{◌∙◌}
+use Rattle.std.proofs.lemmas.Result.{err_from_is_err_and}
+use native.Mathlib.Omega.{arith}
+use Rattle.stored.proofs.LoadLaws.{recent_low, recent_kept, load_read, load_stopped}
 use Rattle.stored.proofs.loads.load.Goals as goal
 
-pub returns-in-Loaded : goal.returns-in-Loaded
-returns-in-Loaded c =
-    let s = c.args in
-    let read = c.load_form-read in
-    c.recent.ensures ∙ load_read s.lowest s.bytes.now read.result read.ensures c.in-Loaded.is
+pub returns-in_err-book : goal.returns-in_err-book
+returns-in_err-book c =
+    let p = err_from_is_err_and c.from_residual.result c.from_residual.ensures.1 in
+    rw (p.1, p.2) (load_stopped c.args.lowest c.args.bytes.now _ c.in_err-book.ensures)
 
-pub returns-in-Refused : goal.returns-in-Refused
-returns-in-Refused c =
-    let s = c.args in
-    let read = c.load_form-read in
-    c.refused.ensures ∙ load_stopped s.lowest s.bytes.now read.result read.ensures _ c.in-Refused.is
+pub returns-then-revision-lowest : goal.returns-then-revision-lowest
+returns-then-revision-lowest c =
+    recent_low c.in_ok-book.book c.args.lowest (omega (arith, c.revision.ensures))
+    ∙ load_read c.args.lowest c.args.bytes.now _ c.in_ok-book.ensures
+
+pub returns : goal.returns
+returns c =
+    recent_kept c.in_ok-book.book c.args.lowest (omega (arith, c.revision.ensures))
+    ∙ load_read c.args.lowest c.args.bytes.now _ c.in_ok-book.ensures

@@ -1,11 +1,7 @@
--- The loop's invariant: the flag is the test of the first blocks.
-use Prim.Native.Nat.{◌≤◌, ◌-◌}
-use mathlib.Core.Path.{◌≡◌}
+-- The loop's invariant: none of the first blocks has a wrong number or check.
+use Rattle.std.proofs.Common.{◌≡◌, true}
 use Rattle.stored.specs.Reading.{blocks_right}
 use Rattle.stored.proofs.readers.blocks_right.Given as goal
 
 abbrev pub invariant-loop-block : goal.invariant-loop-block
-invariant-loop-block l = (l.block ≤ l.count) × (l.right ≡ blocks_right l.bytes l.block)
-
-abbrev pub decreases-loop-block : goal.decreases-loop-block
-decreases-loop-block l = l.count - l.block
+invariant-loop-block l = blocks_right l.bytes l.block ≡ true

@@ -3,16 +3,6 @@ use Rattle.stored.proofs.FormLaws.{marks_length}
 use Rattle.stored.proofs.BlockLaws.{record_steps}
 use Rattle.stored.proofs.stores.put_record.Goals as goal
 
-pub put_fields-requires : goal.put_fields-requires
-put_fields-requires c =
-    let s = c.args in
-    omega (arith, marks_length s.form s.circuit)
-
-pub put_marks-requires : goal.put_marks-requires
-put_marks-requires c =
-    let s = c.args in
-    omega (arith, marks_length s.form s.circuit)
-
 pub returns : goal.returns
 returns c =
     let a = c.args in

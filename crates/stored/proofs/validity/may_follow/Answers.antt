@@ -1,22 +1,15 @@
-use mathlib.Core.Path.{sym, ◌∙◌}
-use Rattle.stored.proofs.Joins.{joined}
-use Rattle.stored.proofs.FitLaws.{fits_placed, follows_not, follows_so}
+use Rattle.std.proofs.Common.{sym, refl, ◌∙◌, true}
+use Rattle.stored.proofs.Joins.{contrary}
+use Rattle.stored.proofs.FitLaws.{fits_placed}
 use Rattle.stored.proofs.validity.may_follow.Goals as goal
-
-pub returns-then-not-fits : goal.returns-then-not-fits
-returns-then-not-fits c =
-    follows_not _ _ _ (sym
-    (joined c.circuit_fits.ensures c.serial_fits.ensures c.both-fits.ensures)
-    ∙ c.if-not-fits.true)
+use Rattle.stored.proofs.validity.may_follow.Goals.{then-circuit_fits, else-circuit_fits}
 
 pub hold-requires : goal.hold-requires
 hold-requires c =
-    let fits = sym (joined c.circuit_fits.ensures c.serial_fits.ensures c.both-fits.ensures)
-    ∙ c.if-not-fits.false in
-    (c.requires.0, rw c.ends_of.ensures (fits_placed c.args.n c.args.w c.args.circuit _ c.requires.1 c.requires.2 fits))
-
-pub returns : goal.returns
-returns c =
-    let fits = sym (joined c.circuit_fits.ensures c.serial_fits.ensures c.both-fits.ensures)
-    ∙ c.if-not-fits.false in
-    follows_so _ _ _ _ _ fits (rw c.ends_of.ensures at c.hold.ensures)
+    elim c.if-circuit_fits.branch [
+      | then-circuit_fits w ↦
+          rw (c.ends.ensures, c.from.ensures)
+          (fits_placed c.args.book.now.n c.args.book.now.w c.args.circuit.now true c.requires.0 c.requires.1
+          (rw (sym c.circuit_fits.ensures, w.if-circuit_fits.true) refl))
+      | else-circuit_fits w ↦ contrary c.if-serial_fits.true (w.value-is ∙ w.if-circuit_fits.false)
+    ]

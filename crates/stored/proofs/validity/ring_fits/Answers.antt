@@ -1,7 +1,5 @@
-use Rattle.stored.specs.Validity.{ring_fits}
-use Rattle.stored.proofs.Joins.{joined}
+use Rattle.stored.proofs.FitLaws.{ring_made}
 use Rattle.stored.proofs.validity.ring_fits.Goals as goal
 
 pub returns : goal.returns
-unfolding ring_fits
-returns c = joined c.both-nodes.ensures c.both-colours.ensures c.both.ensures
+returns c = rw (c.is_ok.ensures.value, c.new.ensures) (ring_made c.args.n c.args.w)

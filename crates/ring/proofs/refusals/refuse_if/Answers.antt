@@ -1,8 +1,0 @@
--- The test decides.
-use Rattle.ring.proofs.refusals.refuse_if.Goals as goal
-
-pub returns-then-test : goal.returns-then-test
-returns-then-test c = simp c.if-test.true
-
-pub returns : goal.returns
-returns c = simp c.if-test.false
