@@ -10,7 +10,7 @@
  * Every function takes any numbers and any bytes at all: it stays inside the
  * memory lent to it, always ends, and is proved to answer what its definition
  * says. The library keeps no state and needs no heap; of the C library it uses
- * memcpy and memset. It works on the caller's stack: less than 640 KB in
+ * memcpy, memmove and memset. It works on the caller's stack: less than 640 KB in
  * tarziloen_plan and tarziloen_answer, less than 64 KB in the others.
  *
  * A slice is passed as a pointer and the number of its entries. The pointer is
