@@ -36,10 +36,10 @@ fn word(way: Way, request: Request, k: usize) -> u64
     }
 }
 
-// The links that are held in each of 128 colours.
-#[derive(Drop)]
+// The links that are held in each of 128 colours, as four words for each: any such words may be held on from, and read.
+#[derive(Clone, Copy)]
 pub struct HeldLinks {
-    words: [[u64; 4]; 128],
+    pub words: [[u64; 4]; 128],
 }
 
 impl Model for HeldLinks {
@@ -49,6 +49,8 @@ impl Model for HeldLinks {
     ghost Value = { List (List ℕ) };
 
     ghost view = { λ h. h.words };
+
+    ghost inverse = { λ rows. record { words = rows } };
 
     ghost invariant = { λ h. LinkSets h.words };
 }
