@@ -34,9 +34,9 @@ fn first_with(latest: &[u16], end: u16) -> Option<usize>
 // The latest ends of w colours: those in use come first, and all others are 0.
 #[derive(Drop)]
 pub struct Colours {
-    latest: [u16; 128],
-    used: usize,
-    w: usize,
+    pub latest: [u16; 128],
+    pub used: usize,
+    pub w: usize,
 }
 
 // Clauses see the latest ends of the w colours.
@@ -66,7 +66,7 @@ impl Colours {
 
     // The colour whose latest end is greatest among those not above a, the lowest colour on a tie. No latest end of a colour in use is 0,
     // so 0 says that none of them fits.
-    fn best(&self, a: u16) -> Option<usize>
+    pub fn best(&self, a: u16) -> Option<usize>
         ensures { result ≡ pick self.now a }
     {
         let in_use = &self.latest[..self.used];
