@@ -14,8 +14,8 @@ use ring::Refusal;
 // What circuits pay by.
 #[derive(Drop)]
 pub struct Tariff {
-    distances: Distances,
-    rates: Rates,
+    pub distances: Distances,
+    pub rates: Rates,
 }
 
 impl Tariff {

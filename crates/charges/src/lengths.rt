@@ -1,7 +1,7 @@
 // The lengths of the links, and the metres along a way.
-ghost use Rattle.std.specs.Prelude.{◌≡◌, IfOk};
+ghost use Rattle.std.specs.Prelude.{◌≡◌, false, IfOk};
 ghost use Rattle.std.specs.Result.{result_and};
-ghost use Rattle.charges.specs.Lengths.{lengths_verdict};
+ghost use Rattle.charges.specs.Lengths.{some_outside, lengths_verdict};
 ghost use Rattle.charges.specs.Internal.Distances.{AddedUp, up_to, metres_by};
 
 use super::limits::some_outside;
@@ -10,7 +10,7 @@ use ring::{Refusal, Request, Way};
 // The metres from node 0 up to each node, so that those of any way are a difference of two. Past the last link all entries are the length
 // of the ring.
 #[derive(Drop)]
-pub struct Distances([u32; 257]);
+pub struct Distances(pub [u32; 257]);
 
 impl Distances {
     // The distances of the lengths of n links, or 29, for any number of lengths but n, or a length not 1 to 1,000,000.
@@ -22,13 +22,21 @@ impl Distances {
         if lengths.len() != usize::from(n) || some_outside(lengths, 1, 1000000) {
             return Err(Refusal::LinkLengths);
         }
+        Ok(Distances::add_up(lengths))
+    }
+
+    // The distances of lengths, however many there are: those of the first 256 are added up.
+    pub fn add_up(lengths: &[u32]) -> Distances
+        requires { some_outside 1 1000000 lengths.now ≡ false }
+        ensures { AddedUp lengths.now result.0 }
+    {
         let mut entries = [0u32; 257];
         let mut metres: u32 = 0;
         for i in 0..256 {
             metres += lengths.get(i).copied().unwrap_or(0);
             entries[i + 1] = metres;
         }
-        Ok(Distances(entries))
+        Distances(entries)
     }
 
     // The metres up to a node; one that no ring has gets the last entry.

@@ -1,10 +1,10 @@
-use Rattle.std.proofs.Common.{◌≡◌, ◌+◌, take, get_or, length-set, sym, ◌∙◌}
+use Rattle.std.proofs.Common.{◌≡◌, ◌+◌, take, get_or, length-set}
 use borrow.Author.Rules.{rules}
 use native.Mathlib.Omega.{arith}
 use Rattle.charges.specs.Promises.{total}
 use Rattle.charges.proofs.LengthLaws.{none_above, total_next, total_most}
 use Rattle.charges.proofs.DistanceLaws.{added_up_next}
-use Rattle.charges.proofs.lengths.Distances.new.Goals as goal
+use Rattle.charges.proofs.lengths.Distances.add_up.Goals as goal
 
 -- the length of a link, and 0 past the last one
 link_length : (c : goal.After-unwrap_or-metres) → c.unwrap_or-metres.result ≡ get_or c.args.lengths.now c.loop-i.i 0
@@ -13,7 +13,7 @@ link_length c = search rules
 pub overflow_add-metres : goal.overflow_add-metres
 overflow_add-metres c =
     let l = c.loop-i in
-    let most = none_above 1 1000000 c.args.lengths.now (sym c.some_outside.ensures ∙ c.if-some_outside.false) in
+    let most = none_above 1 1000000 c.args.lengths.now c.requires in
     omega (arith, link_length c, l.invariant.1, total_most l.i c.args.lengths.now most, most l.i)
 
 pub loop-i-preserved : goal.loop-i-preserved
