@@ -1,7 +1,7 @@
 -- An exposed request to which none is adjacent: a search from it would freeze it alone.
 use Prim.Native.Nat.{ℕ, ◌+◌, ◌<◌, ◌≤◌}
 use mathlib.Core.Path.{◌≡◌, refl, sym, ap, ◌∙◌}
-use mathlib.Core.Bool.{Bool, true, false, ◌&&◌}
+use mathlib.Core.Bool.{Bool, true, false, not, ◌&&◌}
 use mathlib.Core.List.{List, map}
 use native.Mathlib.Omega.{arith}
 use lib.Dec.{eqb, ltb}
@@ -28,6 +28,11 @@ use Rattle.matching.proofs.MaximumLaws.{square_blank}
 use Rattle.matching.proofs.ModelLaws.{settled_at_set}
 use Rattle.matching.proofs.ScanLaws.{scan_starts, scan_passes_to, scan_finishes}
 use Rattle.matching.proofs.SearchLaws.{begun_settled, search_begins, search_ends, settled_alike}
+
+-- a test holds if its opposite fails
+pub not_not : (b : Bool) → not b ≡ false → b ≡ true
+not_not true e = refl
+not_not false e = sym e
 
 -- r has no neighbour but itself in its set
 pub alone_none : (R : List Request) (r : ℕ) (words : List ℕ) → Neighbours R r words

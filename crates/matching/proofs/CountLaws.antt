@@ -8,7 +8,13 @@ use lib.ListN.{length, take}
 use Rattle.std.specs.Prelude.{filter}
 use Rattle.std.specs.List.{enumerate_from}
 use Rattle.ring.specs.Matchings.{Pair}
+use Rattle.ring.proofs.Counting.{bit}
 use Rattle.matching.specs.Maximum.{lower_pair, pairs_from, pairs_of}
+
+-- it has one for a request below its mate, and none for another
+lower_pair_lem : (t : Bool) (i j : ℕ) → length (lower_pair t i j) ≡ bit t
+lower_pair_lem true i j = refl
+lower_pair_lem false i j = refl
 
 -- a request and its mate, where the request is the lower-numbered one
 abbrev pub is_lower : ℕ × ℕ → Bool
