@@ -20,6 +20,7 @@ impl Book {
     }
 
     // The record of the serial goes, or refusal 14, 23 or 24 leaves the book as it is.
+    #[tactic(auto, unfolding(crate::specs::Confirmations::confirmed, crate::specs::Confirmations::absent))]
     pub fn confirm(&mut self, serial: u16) -> Result<(), Refusal>
         ensures { confirmed self.old serial ≡ record { answer = result; book = self.new } }
     {

@@ -39,6 +39,7 @@ impl Line {
     }
 
     // The first of the grounds 4, 5, 9, 10 and 26 that is there, on n nodes with w colours.
+    #[tactic(auto, unfolding(crate::specs::Grants::argument_verdict))]
     fn verdict(self, n: u16, w: u16) -> Result<(), Refusal>
         ensures { result ≡ argument_verdict n w self.x self.y self.way self.colour self.crew }
     {
@@ -99,6 +100,7 @@ impl Book {
     }
 
     // The first of the grounds 4, 5, 9, 10, 26 and 11 to 13 that is there, 11 by comparing ends.
+    #[tactic(auto, unfolding(crate::specs::Internal::Conflicts::verdict_by_ends))]
     fn grant_verdict(&self, line: Line) -> Result<(), Refusal>
         ensures { result ≡ verdict_by_ends self.now line.x line.y line.way line.colour line.crew }
     {

@@ -10,6 +10,7 @@ use ring::Refusal;
 
 impl Book {
     // Whether the serial is 0 or was never given.
+    #[tactic(auto, unfolding(crate::specs::Orders::never_given))]
     fn never_gave(&self, serial: u16) -> bool
         ensures { result ≡ never_given self.now.grants serial }
     {
@@ -81,6 +82,7 @@ impl Book {
     }
 
     // The circuit of an order that the crew may read, or refusal 26, 14 or 15.
+    #[tactic(auto, unfolding(crate::specs::Orders::shown_to))]
     pub fn show(&self, serial: u16, crew: u16) -> Result<Circuit, Refusal>
         ensures { result ≡ shown_to crew self.now serial }
     {
