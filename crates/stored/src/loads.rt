@@ -47,6 +47,7 @@ fn load_form(form: Form, bytes: &[u8]) -> Result<Book, Refusal>
 }
 
 // The book that the bytes are the stored form of, or refusal 18, 19 or 20, or 28 if its revision is below the lowest.
+#[tactic(auto, unfolding(crate::specs::Loading::loaded, crate::specs::Loading::load_verdict))]
 pub fn load(bytes: &[u8], lowest: u32) -> Result<Book, Refusal>
     ensures { loading_of result ≡ loaded lowest bytes.now }
 {
