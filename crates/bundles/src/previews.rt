@@ -1,5 +1,5 @@
 // Trying grants before making them.
-ghost use Rattle.std.specs.Prelude.{◌≡◌};
+ghost use Rattle.std.specs.Prelude.{◌≡◌, ◌≤◌, length};
 ghost use Rattle.bundles.specs.Previews.{size_verdict, serials_of, PreviewPromise};
 
 use super::bundles::Bundle;
@@ -19,7 +19,8 @@ pub struct Previewed {
 impl Previewed {
     // The serials: of any value of the struct, never more than there are entries.
     pub fn serials(&self) -> &[u16]
-        ensures { result.now ≡ serials_of self.now }
+        ensures serials { result.now ≡ serials_of self.now }
+        ensures few { length result.now ≤ 16 }
     {
         &self.serials[..usize::from(self.count).min(16)]
     }
