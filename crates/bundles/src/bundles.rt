@@ -3,7 +3,7 @@ ghost use Rattle.std.specs.Prelude.{List, [], ◌∷◌, ◌++◌};
 ghost use Rattle.book.specs.declared.grants.Line.{Line};
 ghost use Rattle.bundles.specs.Internal.Bundles.{Bundled};
 
-use book::Line;
+pub use book::Line;
 
 // Room for 16 lines, and their number as the caller gives it.
 #[derive(Clone, Copy)]

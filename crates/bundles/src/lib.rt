@@ -4,5 +4,5 @@
 pub mod bundles;
 pub mod previews;
 
-pub use bundles::Bundle;
+pub use bundles::{Bundle, Line};
 pub use previews::{Previewed, preview};
