@@ -39,6 +39,10 @@ unfolding record_place
 place_fits Old i h = omega arith
 place_fits New i h = omega arith
 
+pub share_some : (form : Form) → 1 ≤ block_records form
+share_some Old = omega arith
+share_some New = omega arith
+
 -- each later block takes up where the one before it was full
 pub first_none : (form : Form) → first_record form 0 ≡ 0
 unfolding first_record
