@@ -30,8 +30,8 @@ fn load_front(buffer: &[u8], length: usize) -> Result<Book, Refusal>
 fn grant(buffer: &mut [u8], length: usize, line: Line) -> Result<[u16; 2], Refusal>
     ensures { outcome_of result buffer.new ≡ grant_call buffer.old length line.x line.y line.way line.colour line.crew }
 {
-    let mut book = load_front(buffer, length)?;
-    grant_in(&mut book, line, buffer)
+    let book = load_front(buffer, length)?;
+    grant_in(book, line, buffer)
 }
 
 // Loads a book, removes an order from it, and stores it.
@@ -39,8 +39,8 @@ fn grant(buffer: &mut [u8], length: usize, line: Line) -> Result<[u16; 2], Refus
 fn remove(buffer: &mut [u8], length: usize, serial: u16) -> Result<[u16; 1], Refusal>
     ensures { outcome_of result buffer.new ≡ remove_call buffer.old length serial }
 {
-    let mut book = load_front(buffer, length)?;
-    remove_in(&mut book, serial, buffer)
+    let book = load_front(buffer, length)?;
+    remove_in(book, serial, buffer)
 }
 
 // Loads a book, confirms the pull of a removed order in it, and stores it.
@@ -48,8 +48,8 @@ fn remove(buffer: &mut [u8], length: usize, serial: u16) -> Result<[u16; 1], Ref
 fn confirm(buffer: &mut [u8], length: usize, serial: u16) -> Result<[u16; 1], Refusal>
     ensures { outcome_of result buffer.new ≡ confirm_call buffer.old length serial }
 {
-    let mut book = load_front(buffer, length)?;
-    confirm_in(&mut book, serial, buffer)
+    let book = load_front(buffer, length)?;
+    confirm_in(book, serial, buffer)
 }
 
 // Opens a book on n nodes with w colours and stores it. Value: the length of its stored form.

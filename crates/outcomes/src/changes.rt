@@ -1,9 +1,6 @@
 // Changes of a book that is stored behind them: they give the length of its stored form, behind the serial of a new circuit.
 ghost use Rattle.std.specs.Prelude.{[], ◌≡◌};
 ghost use Rattle.book.specs.Books.{Valid};
-ghost use Rattle.book.specs.Confirmations.{confirmed};
-ghost use Rattle.book.specs.Grants.{granted};
-ghost use Rattle.book.specs.Removals.{removed};
 ghost use Rattle.outcomes.specs.Outcomes.{outcome_of};
 ghost use Rattle.outcomes.specs.Changes.{confirm_on, grant_on, remove_on, storing};
 
@@ -22,32 +19,32 @@ pub fn keep(book: &Book, buffer: &mut [u8]) -> Result<[u16; 1], Refusal>
 
 // Grants a circuit in a book, and stores it.
 #[tactic(auto, using(crate::proofs::OutcomeLaws::refusal_number, crate::proofs::OutcomeLaws::store_kept))]
-pub fn grant_in(book: &mut Book, line: Line, buffer: &mut [u8]) -> Result<[u16; 2], Refusal>
-    requires { Valid book.old }
-    ensures outcome { outcome_of result buffer.new ≡ grant_on book.old line.x line.y line.way line.colour line.crew buffer.old }
-    ensures book { book.new ≡ (granted book.old line.x line.y line.way line.colour line.crew).book }
+pub fn grant_in(book: Book, line: Line, buffer: &mut [u8]) -> Result<[u16; 2], Refusal>
+    requires { Valid book }
+    ensures { outcome_of result buffer.new ≡ grant_on book line.x line.y line.way line.colour line.crew buffer.old }
 {
-    let serial = book.grant(line)?;
-    let length = store(book, buffer)?;
+    let mut changed = book;
+    let serial = changed.grant(line)?;
+    let length = store(&changed, buffer)?;
     Ok([serial, length])
 }
 
 // Removes an order from a book, whose record is pending then, and stores it.
 #[tactic(auto, using(crate::proofs::OutcomeLaws::refusal_number))]
-pub fn remove_in(book: &mut Book, serial: u16, buffer: &mut [u8]) -> Result<[u16; 1], Refusal>
-    ensures outcome { outcome_of result buffer.new ≡ remove_on book.old serial buffer.old }
-    ensures book { book.new ≡ (removed book.old serial).book }
+pub fn remove_in(book: Book, serial: u16, buffer: &mut [u8]) -> Result<[u16; 1], Refusal>
+    ensures { outcome_of result buffer.new ≡ remove_on book serial buffer.old }
 {
-    book.remove(serial)?;
-    keep(book, buffer)
+    let mut changed = book;
+    changed.remove(serial)?;
+    keep(&changed, buffer)
 }
 
 // Confirms the pull of a removed order in a book, and stores it.
 #[tactic(auto, using(crate::proofs::OutcomeLaws::refusal_number))]
-pub fn confirm_in(book: &mut Book, serial: u16, buffer: &mut [u8]) -> Result<[u16; 1], Refusal>
-    ensures outcome { outcome_of result buffer.new ≡ confirm_on book.old serial buffer.old }
-    ensures book { book.new ≡ (confirmed book.old serial).book }
+pub fn confirm_in(book: Book, serial: u16, buffer: &mut [u8]) -> Result<[u16; 1], Refusal>
+    ensures { outcome_of result buffer.new ≡ confirm_on book serial buffer.old }
 {
-    book.confirm(serial)?;
-    keep(book, buffer)
+    let mut freed = book;
+    freed.confirm(serial)?;
+    keep(&freed, buffer)
 }
