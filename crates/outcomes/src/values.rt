@@ -1,5 +1,5 @@
 // Answers as numbers.
-ghost use Rattle.std.specs.Prelude.{Err, MatchResult, Ok, [], ◌≡◌, ◌∷◌};
+ghost use Rattle.std.specs.Prelude.{Err, MatchResult, Ok, [], ◌≡◌, ◌∷◌, set};
 ghost use Rattle.ring.specs.Answers.{carried_values, refuses};
 ghost use Rattle.planner.specs.Plan.{part_number, plan_in_numbers};
 ghost use Rattle.outcomes.specs.Outcomes.{Answered, in_numbers, put_from};
@@ -8,6 +8,15 @@ ghost use Rattle.outcomes.specs.Entries.{halves};
 use planner::{Part, Summary};
 use ring::Refusal;
 use ring::refusals::Carried;
+
+// Puts a value into an entry, if there is one.
+pub fn put_at(values: &mut [u16], at: usize, value: u16)
+    ensures { values.new ≡ set values.old at value }
+{
+    if at < values.len() {
+        values[at] = value;
+    }
+}
 
 // Puts values into the lent ones, from the first on: of a slice that is too short, as many as fit.
 #[tactic(auto, using(crate::proofs::OutcomeLaws::put_front))]
@@ -24,7 +33,7 @@ fn put_carried(values: &mut [u16], carried: Carried)
 {
     match carried {
         Carried::None => {}
-        Carried::One(first) => put(values, &[first]),
+        Carried::One(first) => put_at(values, 0, first),
         Carried::Two(first, second) => put(values, &[first, second]),
     }
 }
