@@ -11,7 +11,7 @@ use ring::Refusal;
 impl Book {
     // Whether the serial is 0 or was never given.
     #[tactic(auto, unfolding(crate::specs::Orders::never_given))]
-    fn never_gave(&self, serial: u16) -> bool
+    pub fn never_gave(&self, serial: u16) -> bool
         ensures { result ≡ never_given self.now.grants serial }
     {
         serial == 0 || self.grants < serial
