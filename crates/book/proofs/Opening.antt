@@ -3,16 +3,24 @@ use Prim.Native.Nat.{ℕ}
 use mathlib.Core.Path.{◌≡◌, refl, ap}
 use mathlib.Core.List.{[]}
 use native.Mathlib.Omega.{arith}
-use Rattle.std.specs.Prelude.{Ok}
+use Rattle.std.specs.Prelude.{Result, Ok, Err}
+use Rattle.std.specs.Result.{result_unwrap_or}
+use Rattle.ring.specs.declared.refusals.Refusal.{Refusal}
 use Rattle.ring.specs.Refusals.{Verdict}
 use Rattle.ring.specs.Admission.{ring_verdict}
 use Rattle.ring.proofs.AdmissionLaws.{RingLimits, ring_limits}
-use Rattle.book.specs.Books.{book_of, open_unless, opened, Valid}
+use Rattle.book.specs.declared.books.Book.{Book}
+use Rattle.book.specs.Books.{book_of, no_nodes, opening_of, open_unless, opened, Valid}
 
 -- the new book
 pub opened_book : (n w : ℕ) → ring_verdict n w ≡ Ok tt → (opened n w).book ≡ book_of n w 0 []
 unfolding opened
 opened_book n w e = ap (λ (v : Verdict). (open_unless v n w).book) e
+
+-- the book of an answer, or that of no nodes
+pub opening_book : (r : Result Book Refusal) → result_unwrap_or r no_nodes ≡ (opening_of r).book
+opening_book (Ok b) = refl
+opening_book (Err r) = refl
 
 pub opened_valid : (n w : ℕ) → ring_verdict n w ≡ Ok tt → Valid (book_of n w 0 [])
 opened_valid n w e =

@@ -38,6 +38,13 @@ impl Book {
         Ok(Book::blank(n, w, 0))
     }
 
+    // The book that an opening gives; beside a refusal the book of no nodes, which turns every call down.
+    pub fn opened(n: u16, w: u16) -> Book
+        ensures { result ≡ (opened n w).book }
+    {
+        Book::open(n, w).unwrap_or(Book::blank(0, 0, 0))
+    }
+
     // The number of records, live and pending: of any value of the struct, never more than there are places.
     pub fn record_count(&self) -> usize
         ensures { (result ≡ length (records_of self.now)) × (result ≤ 512) }

@@ -14,13 +14,13 @@ use std::io;
 use std::io::{Eprint, Print};
 use streams::read_to_end;
 
-// The book is opened with the first two words. Where that is refused, or they are not both there, the calls act on the book of no nodes.
+// The book is opened with the first two words, or with zeros if they are not both there. Where that is refused, the calls act on the
+// book of no nodes that stands beside the refusal.
 fn play<R: Print>(rt: &R, words: &[[u8; 2]]) -> io::Result<()> {
     let [n, w, calls @ ..] = words else {
-        return write_totals(rt, &Book::blank(0, 0, 0));
+        return write_totals(rt, &Book::opened(0, 0));
     };
-    let opened = Book::open(u16::from_le_bytes(*n), u16::from_le_bytes(*w));
-    let mut book = opened.unwrap_or(Book::blank(0, 0, 0));
+    let mut book = Book::opened(u16::from_le_bytes(*n), u16::from_le_bytes(*w));
     play_calls(rt, &mut book, calls)?;
     write_totals(rt, &book)
 }

@@ -1,5 +1,6 @@
 -- The grounds of load in their order.
-use Rattle.std.specs.Prelude.{Ok, Err}
+use Rattle.std.specs.Prelude.{Result, Ok, Err}
+use Rattle.std.specs.Result.{result_unwrap_or}
 use Prim.Native.Nat.{ℕ, zero, suc, ◌/◌, ◌%◌, ◌≤◌, ◌<◌}
 use mathlib.Core.Path.{◌≡◌, refl, sym, ◌∙◌, ap}
 use mathlib.Core.Bool.{Bool, true, false, not, cond, ◌&&◌, ◌||◌}
@@ -21,7 +22,7 @@ use Rattle.stored.specs.declared.forms.Form.TheVariants.{New}
 use Rattle.stored.specs.Forms.{longest, stored_form}
 use Rattle.stored.specs.Reading.{blocks_right, book_in}
 use Rattle.stored.specs.Validity.{book_fits}
-use Rattle.stored.specs.Loading.{Loaded, length_wrong, form_right, form_verdict, load_verdict, load_unless, loaded}
+use Rattle.stored.specs.Loading.{Loaded, length_wrong, form_right, form_verdict, load_verdict, load_unless, loading_of, loaded}
 
 -- a length that is not refused
 pos : (n : ℕ) → (n ≡ 0 → ⊥) → 0 < n
@@ -138,3 +139,8 @@ module _ (lowest : ℕ) (bytes : List ℕ) where
   pub load_stopped : (r : Refusal) → record { answer = Err r; book = book_of 0 0 0 [] } ≡ load_unless New (form_verdict New bytes) bytes
       → record { answer = Err r; book = book_of 0 0 0 [] } ≡ loaded lowest bytes
   load_stopped r e = sym (load_refused lowest bytes (sym (ap (λ (x : Loaded). x.answer) e ∙ answer_is (form_verdict New bytes))))
+
+-- the book of an answer, or that of no nodes
+pub loading_book : (r : Result Book Refusal) → result_unwrap_or r (book_of 0 0 0 []) ≡ (loading_of r).book
+loading_book (Ok b) = refl
+loading_book (Err r) = refl

@@ -12,5 +12,5 @@ pub mod validity;
 pub mod words;
 
 pub use forms::Form;
-pub use loads::{load, load_either, load_old};
+pub use loads::{load, load_either, load_old, loaded};
 pub use stores::{store, store_old};

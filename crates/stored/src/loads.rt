@@ -58,6 +58,13 @@ pub fn load(bytes: &[u8], lowest: u32) -> Result<Book, Refusal>
     Ok(book)
 }
 
+// The book that a load gives; beside a refusal the book of no nodes, which turns every call down.
+pub fn loaded(bytes: &[u8], lowest: u32) -> Book
+    ensures { result ≡ (loaded lowest bytes.now).book }
+{
+    load(bytes, lowest).unwrap_or(Book::blank(0, 0, 0))
+}
+
 // The book that the bytes are the old form of, or refusal 18, 19 or 20.
 #[tactic(auto, unfolding(crate::specs::Loading::loaded_old))]
 pub fn load_old(bytes: &[u8]) -> Result<Book, Refusal>
