@@ -207,7 +207,7 @@ fn put_unreadable(writer: &mut Writer<'_>, text: &[u8])
 }
 
 // The answer to a line that asks nothing of the book.
-fn put_aside(writer: &mut Writer<'_>, aside: Aside, text: &[u8])
+pub fn put_aside(writer: &mut Writer<'_>, aside: Aside, text: &[u8])
     requires { Room 2000 writer.old }
     ensures { Wrote writer.old (aside_text text.now aside) writer.new }
 {

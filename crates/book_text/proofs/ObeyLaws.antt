@@ -5,7 +5,7 @@ use mathlib.Core.List.{List, ◌++◌}
 use mathlib.Core.Logic.{◌⊎◌, ⊎_elim}
 use native.Mathlib.Omega.{arith}
 use lib.ListN.{length, drop}
-use Rattle.std.specs.Prelude.{Option, None, Result, Ok, IfSome}
+use Rattle.std.specs.Prelude.{Option, None, Some, Result, Ok, Err, IfSome}
 use Rattle.ring.specs.declared.refusals.Refusal.{Refusal}
 use Rattle.texts.specs.declared.writing.Writer.{Writer}
 use Rattle.texts.specs.Internal.Writing.{Begun, Wrote}
@@ -17,11 +17,13 @@ use Rattle.stored.specs.Forms.{stored_form}
 use Rattle.stored.specs.Storing.{length_of, form_answer, after_form}
 use Rattle.stored.proofs.StoreLaws.{form_length, store_answer_lem, store_copied}
 use Rattle.book_lines.specs.declared.lines.Command.{Command}
-use Rattle.book_lines.specs.Lines.{heard, command_of}
-use Rattle.book_replies.specs.declared.replies.Reply.TheVariants.{Previewed}
+use Rattle.book_lines.specs.declared.lines.Command.TheVariants as command
+use Rattle.book_lines.specs.declared.lines.Aside.{Aside}
+use Rattle.book_lines.specs.Lines.{heard}
+use Rattle.book_replies.specs.declared.replies.Reply.TheVariants as reply
 use Rattle.book_replies.specs.Replies.{reply_text}
 use Rattle.book_text.specs.declared.answers.Answered.{Answered}
-use Rattle.book_text.specs.Answers.{Contents, ValidContents, answered}
+use Rattle.book_text.specs.Answers.{Contents, ValidContents, only, answered}
 use Rattle.book_text.specs.Promises.{File, contents_of, obeyed, Told, FormTold, ObeyPromise}
 use Rattle.book_text.proofs.AnswerLaws.{valid_found, previewed_valid}
 
@@ -39,16 +41,21 @@ module _ (b : Book) (form : List ℕ) (few : length_of New b ≤ 7168) (room : 7
         buffer = a ∙ (store_copied New b form (omega arith) ∙ ap (λ (k : ℕ). stored_form New b ++ drop k form) (sym size));
       }
 
--- what the file holds, and what the line does
-pub answer_is : (file : File) (line : List ℕ) {contents : Contents} {c : Command} {r : Answered} → contents ≡ contents_of file
-    → c ≡ command_of line → (ValidContents contents → r ≡ answered contents c) → r ≡ obeyed file line
-answer_is file line {contents} {c} {r} e q a =
-    let v : ValidContents contents = rw e (valid_found file) in
-    a v ∙ (ap (λ (x : Contents). answered x c) e ∙ ap (answered (contents_of file)) q)
+-- what the file holds, and what the command does
+pub answer_is : (file : File) (c : Command) {contents : Contents} {r : Answered} → contents ≡ contents_of file
+    → (ValidContents contents → r ≡ answered contents c) → r ≡ answered (contents_of file) c
+answer_is file c {contents} {r} e a =
+    let v : ValidContents contents = rw e (valid_found file) in a v ∙ ap (λ (x : Contents). answered x c) e
+
+-- an aside is answered alike, whatever the file holds
+pub aside_answered : (contents : Contents) (a : Aside) → answered contents (command.Aside a) ≡ only (reply.Aside a)
+aside_answered (Ok None) a = refl
+aside_answered (Ok (Some b)) a = refl
+aside_answered (Err r) a = refl
 
 -- a preview is replied about a valid book
 pub reply_valid : (file : File) (contents : Contents) (c : Command) {r : Answered} → contents ≡ contents_of file
-    → (ValidContents contents → r ≡ answered contents c) → (b : Book) → r.reply ≡ Previewed b → Valid b
+    → (ValidContents contents → r ≡ answered contents c) → (b : Book) → r.reply ≡ reply.Previewed b → Valid b
 reply_valid file contents c e a =
     let v : ValidContents contents = rw e (valid_found file) in previewed_valid contents c v (a v)
 

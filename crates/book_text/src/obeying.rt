@@ -1,16 +1,19 @@
 // A line obeyed: the bytes of its answer and, where it changes the book, the bytes that the file is to hold.
-ghost use Rattle.std.specs.Prelude.{◌≡◌, ◌≤◌, length, option_copied};
+ghost use Rattle.std.specs.Prelude.{◌≡◌, ◌≤◌, IfSome, length, option_copied};
 ghost use Rattle.stored.specs.declared.forms.Form.TheVariants.{New};
 ghost use Rattle.stored.specs.Forms.{stored_form};
+ghost use Rattle.texts.specs.Internal.Writing.{Room, Wrote};
 ghost use Rattle.book_lines.specs.Lines.{command_of};
+ghost use Rattle.book_replies.specs.Replies.{reply_text};
+ghost use Rattle.book_text.specs.Answers.{answered};
 ghost use Rattle.book_text.specs.Needs.{need_of};
-ghost use Rattle.book_text.specs.Promises.{Told, ObeyPromise};
+ghost use Rattle.book_text.specs.Promises.{Told, FormTold, ObeyPromise, contents_of};
 
 use super::answers::{answer, find};
 use book::Book;
 use book_lines::Command;
 use book_lines::lines::read;
-use book_replies::replies::put_reply;
+use book_replies::replies::{put_aside, put_reply};
 use stored::Form;
 use stored::stores::write_form;
 use texts::writing::Writer;
@@ -61,6 +64,53 @@ fn put_form(form: &mut [u8], book: &Book) -> usize
     usize::from(write_form(Form::New, book, form).unwrap())
 }
 
+// Answers a command by the bytes of the file, if there is one. The new form of a book that it changes goes to the front of `form`: its
+// length, or none where nothing changes.
+fn obey_by_file(
+    writer: &mut Writer<'_>,
+    file: Option<&[u8]>,
+    command: Command,
+    text: &[u8],
+    form: &mut [u8],
+) -> Option<usize>
+    requires room { Room 16384 writer.old }
+    requires longest { 7168 ≤ length form.old }
+    ensures told { Wrote writer.old (reply_text text.now (answered (contents_of (option_copied file.entry)) command).reply) writer.new }
+    ensures stored { FormTold (answered (contents_of (option_copied file.entry)) command).changed form.old form.new result }
+    ensures within { IfSome result (λ size. size ≤ length form.new) }
+{
+    let contents = find(file);
+    let answered = answer(&contents, command);
+    put_reply(writer, &answered.reply, text);
+    match &answered.changed {
+        Some(book) => Some(put_form(form, book)),
+        None => None,
+    }
+}
+
+// The same; an aside is answered without a look at the file.
+fn obey_command(
+    writer: &mut Writer<'_>,
+    file: Option<&[u8]>,
+    command: Command,
+    text: &[u8],
+    form: &mut [u8],
+) -> Option<usize>
+    requires room { Room 16384 writer.old }
+    requires longest { 7168 ≤ length form.old }
+    ensures told { Wrote writer.old (reply_text text.now (answered (contents_of (option_copied file.entry)) command).reply) writer.new }
+    ensures stored { FormTold (answered (contents_of (option_copied file.entry)) command).changed form.old form.new result }
+    ensures within { IfSome result (λ size. size ≤ length form.new) }
+{
+    match command {
+        Command::Aside(aside) => {
+            put_aside(writer, aside, text);
+            None
+        }
+        _ => obey_by_file(writer, file, command, text, form),
+    }
+}
+
 // Obeys a line by the bytes of the file, if there is one. The answer goes to the front of `reply`, which needs 16,384 bytes, and the bytes
 // that the file is to hold to the front of `form`, which needs 7,168: with less of either nothing is done.
 pub fn obey(file: Option<&[u8]>, line: &[u8], reply: &mut [u8], form: &mut [u8]) -> Obeyed
@@ -75,17 +125,10 @@ pub fn obey(file: Option<&[u8]>, line: &[u8], reply: &mut [u8], form: &mut [u8])
     }
     let mut text = [0u8; 1024];
     let heard = read(line, &mut text);
-    let contents = find(file);
-    let answered = answer(&contents, heard.command);
     let mut writer = Writer::new(reply);
-    put_reply(&mut writer, &answered.reply, heard.text);
-    let size = writer.len();
-    let stored = match answered.changed {
-        Some(book) => Some(put_form(form, &book)),
-        None => None,
-    };
+    let stored = obey_command(&mut writer, file, heard.command, heard.text, form);
     Obeyed {
-        reply: size,
+        reply: writer.len(),
         form: stored,
     }
 }
