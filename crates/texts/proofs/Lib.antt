@@ -5,3 +5,4 @@ pub mod OutputLaws
 pub mod WordLaws
 pub mod FieldLaws
 pub mod DecimalRead
+pub mod GroundLaws
