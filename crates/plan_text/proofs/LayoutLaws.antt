@@ -15,12 +15,22 @@ use Rattle.planner.specs.declared.answers.Part.TheVariants as part
 use Rattle.planner.specs.declared.answers.Summary.{Summary}
 use Rattle.ring.proofs.FateLaws.{fates_length}
 use Rattle.texts.specs.Bytes.{bytes}
+use Rattle.texts.specs.Layout.{labelled}
 use Rattle.texts.specs.declared.writing.Writer.{Writer}
-use Rattle.texts.specs.Internal.Writing.{Wrote}
+use Rattle.texts.specs.Internal.Writing.{Room, Wrote}
 use Rattle.texts.proofs.DecimalLaws.{decimal_short}
-use Rattle.texts.proofs.WritingLaws.{wrote_then}
+use Rattle.texts.proofs.WritingLaws.{wrote_then, room_left}
 use Rattle.texts.proofs.WordLaws.{labelled_short, way_short}
 use Rattle.plan_text.specs.Layout.{plan_line, part_word, counts_line, fate_ending, fate_line, fate_lines}
+
+-- so much room is left behind what was written
+abbrev pub Leaves : {before after : Writer} {bytes : List ℕ} → ℕ → Wrote before bytes after → Type 0
+Leaves {after = after} rest s = Room rest after
+
+-- behind a number that follows a word of at most 9 bytes
+pub labelled_room : {before after : Writer} (word : List ℕ) (n rest : ℕ) (s : Wrote before (labelled word n) after)
+    → length word ≤ 9 → Room (14 + rest) before → Leaves rest s
+labelled_room word n rest s short room = room_left 14 rest s (omega (arith, labelled_short word n)) room
 
 -- the line of a request, of a plan and of its counts
 pub fate_short : (fate : Fate) → length (fate_ending fate) ≤ 9
