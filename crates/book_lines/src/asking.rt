@@ -1,5 +1,5 @@
 // The lines of a bundle, as they are typed.
-ghost use Rattle.std.specs.Prelude.{◌≡◌};
+ghost use Rattle.std.specs.Prelude.{◌≡◌, IfNone};
 ghost use Rattle.book_lines.specs.Lines.{asked_of, behind_comma, bundle_of};
 ghost use Rattle.book_lines.specs.Internal.Asking.{asked_read, BundledIf};
 
@@ -8,15 +8,18 @@ use book::Line;
 use bundles::Bundle;
 use texts::fields::Reader;
 
-// The line that the byte closes.
+// The line that the byte closes. Where there is none, the reader stays where it is.
 #[tactic(auto, unfolding(crate::specs::Lines::asked_of))]
 pub fn asked(reader: &mut Reader<'_>, close: u8) -> Option<Line>
-    ensures { asked_read result reader.new ≡ asked_of close reader.old }
+    ensures same { asked_read result reader.new ≡ asked_of close reader.old }
+    ensures left { IfNone result (reader.new ≡ reader.old) }
 {
-    let x = reader.field(b' ')?;
-    let y = reader.field(b' ')?;
-    let way = reader.field(b' ')?;
-    let (colour, crew) = crewed(reader, close)?;
+    let mut ahead = Reader::new(reader.rest());
+    let x = ahead.field(b' ')?;
+    let y = ahead.field(b' ')?;
+    let way = ahead.field(b' ')?;
+    let (colour, crew) = crewed(&mut ahead, close)?;
+    *reader = ahead;
     Some(Line {
         x,
         y,
@@ -42,12 +45,10 @@ pub fn lines_of(text: &[u8]) -> Option<Bundle>
     let mut bundle = Bundle::blank();
     let mut reader = Reader::new(text);
     for _ in 0..128_usize {
-        let rest = reader.rest();
         if let Some(line) = asked(&mut reader, b'\n') {
             bundle.push(line);
             return reader.is_at_end().then_some(bundle);
         }
-        reader = Reader::new(rest);
         let line = asked(&mut reader, b',')?;
         bundle.push(line);
         pass_space(&mut reader);

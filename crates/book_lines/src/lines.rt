@@ -37,11 +37,11 @@ pub enum Aside {
     TooLong,
 }
 
-// The command of a line, and the line with its spaces squeezed.
+// The command of a line, and how many bytes the line has with its spaces squeezed.
 #[derive(Clone, Copy)]
-pub struct Heard<'a> {
+pub struct Heard {
     pub command: Command,
-    pub text: &'a [u8],
+    pub length: usize,
 }
 
 #[tactic(auto, unfolding(crate::specs::Lines::open_of))]
@@ -182,22 +182,23 @@ fn finished(line: &[u8]) -> bool
 
 // The command of a line. The line goes into the text with its spaces squeezed; one that is too long does not.
 #[tactic(auto, unfolding(crate::specs::Lines::heard, crate::specs::Lines::command_of))]
-pub fn read<'a>(line: &[u8], text: &'a mut [u8; 1024]) -> Heard<'a>
-    ensures heard { result.text.now ≡ heard line.now }
+pub fn read(line: &[u8], text: &mut [u8; 1024]) -> Heard
+    ensures within { result.length ≤ length text.new }
+    ensures heard { take result.length text.new ≡ heard line.now }
     ensures command { result.command ≡ command_of line.now }
 {
     if text.len() < line.len() {
         return Heard {
             command: Command::Aside(Aside::TooLong),
-            text: &[],
+            length: 0,
         };
     }
-    let size = squeeze(line, text);
-    let text = &text[..size];
+    let length = squeeze(line, text);
+    let said = &text[..length];
     let command = if finished(line) {
-        command_in(text)
+        command_in(said)
     } else {
         Command::Aside(Aside::Unfinished)
     };
-    Heard { command, text }
+    Heard { command, length }
 }

@@ -21,7 +21,7 @@ fn priced(bytes: &[u8], text: &[u8]) -> Result<(Book, Tariff), Refusal>
     let mut buffer = [0u32; 4096];
     let said = read(text, &mut buffer).ok_or(Refusal::TextForm)?;
     let book = load_either(bytes)?;
-    let tariff = Tariff::new(book.n, said.lengths, &said.rates)?;
+    let tariff = Tariff::new(book.n, &buffer[..said.count], &said.rates)?;
     Ok((book, tariff))
 }
 

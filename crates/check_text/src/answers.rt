@@ -16,7 +16,8 @@ fn text_answer(text: &[u8]) -> Result<u16, Refusal>
     let mut ends = [0u16; 8192];
     let mut table = [0u16; 8192];
     let said = read(text, &mut ends, &mut table).ok_or(Refusal::TextForm)?;
-    check(said.n, said.w, said.ends, said.table)
+    let entries = usize::from(said.m);
+    check(said.n, said.w, &ends[..2 * entries], &table[..entries])
 }
 
 // The line for a text, and its length. A buffer of fewer than 32 bytes, which no line needs, gets nothing.

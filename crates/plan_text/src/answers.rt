@@ -6,7 +6,7 @@ ghost use Rattle.plan_text.specs.Promise.{OutputFor, AnswerPromise};
 ghost use Rattle.plan_text.specs.Internal.Printing.{WroteRight};
 
 use super::layout::{put_plan, put_refused};
-use super::reading::{Reading, read};
+use super::reading::{Numbers, read};
 use planner::plan;
 use ring::Refusal;
 use texts::writing::Writer;
@@ -17,9 +17,11 @@ fn put_answer(writer: &mut Writer<'_>, text: &[u8])
     ensures { WroteRight (OutputFor (reading_of text.now)) writer.old writer.new }
 {
     let mut buffer = [0u16; 4096];
-    let Some(Reading { n, w, ends }) = read(text, &mut buffer) else {
+    let Some(Numbers { n, w, m }) = read(text, &mut buffer) else {
         return put_refused(writer, Refusal::TextForm.number());
     };
+    let entries = usize::from(m);
+    let ends = &buffer[..2 * entries];
     let mut table = [0u16; 512];
     match plan(n, w, ends, &mut table) {
         Ok(counts) => put_plan(writer, n, w, counts, &table[..ends.len() / 2]),

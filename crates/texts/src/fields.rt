@@ -1,5 +1,5 @@
 // Numbers in a text: one that a byte closes, and a line of two.
-ghost use Rattle.std.specs.Prelude.{◌≡◌, ◌+◌, ◌*◌, ◌-◌, ◌≤◌, ◌<◌, length, IfSome, IsTrue, ◌↔◌, []};
+ghost use Rattle.std.specs.Prelude.{◌≡◌, ◌+◌, ◌*◌, ◌-◌, ◌≤◌, ◌<◌, length, IfSome, IfNone, IsTrue, ◌↔◌, []};
 ghost use Rattle.texts.specs.Fields.{one_more, closes, field_from, field, long_field, line};
 ghost use Rattle.texts.specs.Internal.Readings.{number_found, field_read, line_read};
 
@@ -74,11 +74,13 @@ impl<'a> Reader<'a> {
         self.rest.is_empty()
     }
 
-    // A number that the byte closes, of at most so many digits and up to the limit.
+    // A number that the byte closes, of at most so many digits and up to the limit. Where there is none, the reader stays where it is, as
+    // it does in the functions below.
     fn number(&mut self, close: u8, most: usize, limit: u32) -> Option<u32>
         requires { most ≤ 10 }
         ensures same { field_read result self.new ≡ field_from most limit close 0 0 self.old }
         ensures fits { IfSome result (λ value. value ≤ limit) }
+        ensures left { IfNone result (self.new ≡ self.old) }
     {
         let (value, rest) = number(self.rest, close, most, limit)?;
         self.rest = rest;
@@ -88,7 +90,8 @@ impl<'a> Reader<'a> {
     // The number that the byte closes: 1 to 5 digits up to 65,535.
     #[tactic(auto, unfolding(crate::specs::Fields::field))]
     pub fn field(&mut self, close: u8) -> Option<u16>
-        ensures { field_read result self.new ≡ field close self.old }
+        ensures same { field_read result self.new ≡ field close self.old }
+        ensures left { IfNone result (self.new ≡ self.old) }
     {
         let value = self.number(close, 5, 65535)?;
         Some(value as u16)
@@ -97,7 +100,8 @@ impl<'a> Reader<'a> {
     // The same of 1 to 10 digits up to 4,294,967,295.
     #[tactic(auto, unfolding(crate::specs::Fields::long_field))]
     pub fn long_field(&mut self, close: u8) -> Option<u32>
-        ensures { field_read result self.new ≡ long_field close self.old }
+        ensures same { field_read result self.new ≡ long_field close self.old }
+        ensures left { IfNone result (self.new ≡ self.old) }
     {
         self.number(close, 10, 4294967295)
     }
@@ -105,10 +109,13 @@ impl<'a> Reader<'a> {
     // The line of two ends.
     #[tactic(auto, unfolding(crate::specs::Fields::line))]
     pub fn line(&mut self) -> Option<(u16, u16)>
-        ensures { line_read result self.new ≡ line self.old }
+        ensures same { line_read result self.new ≡ line self.old }
+        ensures left { IfNone result (self.new ≡ self.old) }
     {
-        let x = self.field(b' ')?;
-        let y = self.field(b'\n')?;
+        let mut ahead = Reader::new(self.rest);
+        let x = ahead.field(b' ')?;
+        let y = ahead.field(b'\n')?;
+        *self = ahead;
         Some((x, y))
     }
 }

@@ -1,15 +1,14 @@
 -- What the functions inside read, as the definitions have it.
-use Rattle.std.specs.Prelude.{ℕ, List, Option, Some, None}
-use Rattle.std.specs.Borrow.{Bor}
+use Rattle.std.specs.Prelude.{ℕ, List, Option, Some, None, take}
 use Rattle.charges_text.specs.Reading.{Lines, unfit, all, Reading, unreadable, readable}
 use Rattle.charges_text.specs.declared.reading.Reading.{Reading as Said}
 
--- the lengths
-abbrev pub lengths_read : Option (Bor (List ℕ)) → Lines
-lengths_read None = unfit
-lengths_read (Some lengths) = all lengths.now
+-- the lengths, which stand first in a buffer
+abbrev pub lengths_in : List ℕ → Option ℕ → Lines
+lengths_in buffer None = unfit
+lengths_in buffer (Some count) = all (take count buffer)
 
--- the whole text
-abbrev pub reading_read : Option Said → Reading
-reading_read None = unreadable
-reading_read (Some said) = readable said.rates said.lengths.now
+-- the whole text, whose lengths stand first in a buffer
+abbrev pub reading_in : List ℕ → Option Said → Reading
+reading_in buffer None = unreadable
+reading_in buffer (Some said) = readable said.rates (take said.count buffer)

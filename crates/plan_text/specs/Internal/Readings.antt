@@ -1,8 +1,7 @@
 -- What the functions inside read, with what is left of the text behind it, as the definitions have it.
-use Rattle.std.specs.Prelude.{ℕ, List, Option, Some, None, ⊤}
+use Rattle.std.specs.Prelude.{ℕ, ◌*◌, List, Option, Some, None, ⊤, take}
 use Rattle.plan_text.specs.Reading.{Lines, unfit, all, Heading, none, numbers, Reading, unreadable, readable}
 use Rattle.plan_text.specs.declared.reading.Numbers.{Numbers}
-use Rattle.plan_text.specs.declared.reading.Reading.{Reading as Said}
 
 -- the first line, and what is left behind it
 abbrev pub heading_read : Option Numbers → List ℕ → Heading
@@ -14,7 +13,7 @@ abbrev pub lines_read : Option ⊤ → List ℕ → List ℕ → Lines
 lines_read None ends rest = unfit
 lines_read (Some done) ends rest = all ends rest
 
--- the whole text
-abbrev pub reading_read : Option Said → Reading
-reading_read None = unreadable
-reading_read (Some said) = readable said.n said.w said.ends.now
+-- the whole text, whose ends stand first in a buffer
+abbrev pub reading_in : List ℕ → Option Numbers → Reading
+reading_in buffer None = unreadable
+reading_in buffer (Some line) = readable line.n line.w (take (2 * line.m) buffer)

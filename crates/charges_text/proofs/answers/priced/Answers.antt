@@ -1,4 +1,5 @@
 use mathlib.Core.Path.{◌≡◌, refl, sym, ◌∙◌, ap, subst}
+use lib.ListN.{take}
 use Rattle.book.specs.Books.{Valid}
 use Rattle.stored.specs.Loading.{Loaded}
 use Rattle.stored.proofs.EitherForm.{either_valid}
@@ -13,12 +14,13 @@ pub returns : goal.returns
 unfolding output_for
 returns c =
     let said = c.in_ok-said.said in
+    let lengths = take said.count c.read.new.buffer in
     let book = c.in_ok-book.book in
     let e = c.in_ok-book.ensures in
     let valid : Valid book =
     subst (λ (x : Loaded). Valid x.book) (sym e) (either_valid c.args.bytes.now (sym (ap (λ (x : Loaded). x.answer) e))) in
     let verdict = c.in_ok-tariff.ensures.ground in
-    let few = tariff_few book said.lengths.now said.rates (tariff_allowed book.n said.lengths.now said.rates (sym verdict)) valid in
-    let text = text_by_lem said.lengths.now said.rates c.in_ok-tariff.tariff c.in_ok-tariff.ensures.given few book in
-    let read : readable said.rates said.lengths.now ≡ reading_of c.args.text.now = search rules in
+    let few = tariff_few book lengths said.rates (tariff_allowed book.n lengths said.rates (sym verdict)) valid in
+    let text = text_by_lem lengths said.rates c.in_ok-tariff.tariff c.in_ok-tariff.ensures.given few book in
+    let read : readable said.rates lengths ≡ reading_of c.args.text.now = search rules in
     text ∙ rw (← read, ← e, ← verdict) refl

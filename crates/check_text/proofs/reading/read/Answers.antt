@@ -1,37 +1,26 @@
-use mathlib.Core.Path.{sym, ap}
+use mathlib.Core.Path.{ap}
 use native.Mathlib.Omega.{arith}
 use lib.ListN.{length}
-use lib.Seq.{length-take-le}
 use Rattle.plan_text.proofs.LineLaws.{heading_shorter}
 use Rattle.check_text.proofs.reading.read.Goals as goal
 
 pub request_lines-requires : goal.request_lines-requires
 request_lines-requires c =
-    let shorter = heading_shorter _ c.in_ok-n.ensures in
+    let shorter = heading_shorter _ c.in_ok-numbers.ensures.same in
     let size = ap length c.new-reader.ensures in
     omega arith
 
 pub table_lines-requires : goal.table_lines-requires
 table_lines-requires c =
-    let shorter = heading_shorter _ c.in_ok-n.ensures in
+    let shorter = heading_shorter _ c.in_ok-numbers.ensures.same in
     let size = ap length c.new-reader.ensures in
     let fits = c.in_ok-request_lines.ensures.fits in
     let room = c.requires.1 in
     omega arith
 
-pub slice_bounds-result-end : goal.slice_bounds-result-end
-slice_bounds-result-end c =
-    let shorter = heading_shorter _ c.in_ok-n.ensures in
+pub returns-clause-fits : goal.returns-clause-fits
+returns-clause-fits c =
+    let shorter = heading_shorter _ c.in_ok-numbers.ensures.same in
     let size = ap length c.new-reader.ensures in
     let fits = c.in_ok-request_lines.ensures.fits in
-    let room = c.requires.0 in
-    sym (length-take-le _ _ (omega arith))
-
-pub slice_bounds-result-end-2 : goal.slice_bounds-result-end-2
-slice_bounds-result-end-2 c =
-    let shorter = heading_shorter _ c.in_ok-n.ensures in
-    let size = ap length c.new-reader.ensures in
-    let ends = c.in_ok-request_lines.ensures.fits in
-    let fits = c.in_ok-table_lines.ensures.fits in
-    let room = c.requires.1 in
-    sym (length-take-le _ _ (omega arith))
+    omega arith
