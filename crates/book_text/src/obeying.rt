@@ -126,7 +126,13 @@ pub fn obey(file: Option<&[u8]>, line: &[u8], reply: &mut [u8], form: &mut [u8])
     let mut text = [0u8; 1024];
     let heard = read(line, &mut text);
     let mut writer = Writer::new(reply);
-    let stored = obey_command(&mut writer, file, heard.command, &text[..heard.length], form);
+    let stored = obey_command(
+        &mut writer,
+        file,
+        heard.command,
+        &text[..heard.length],
+        form,
+    );
     Obeyed {
         reply: writer.len(),
         form: stored,
