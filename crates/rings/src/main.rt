@@ -2,7 +2,8 @@
 // output.
 #![tactic(auto)]
 
-ghost use Rattle.std.specs.Prelude.{IfOk, length, ◌≤◌};
+ghost use Rattle.std.specs.Prelude.{◌≡◌, ◌≤◌, length, IfOk};
+ghost use Rattle.rings.specs.Conversions.{conversion_answer, after_conversion};
 
 use book_replies::replies::put_refused;
 use ring::Refusal;
@@ -10,6 +11,7 @@ use std::env::{Env, FillError};
 use std::fs::Files;
 use std::io::{Cursor, Eprint, Error, Input, Print, Read, Write};
 use std::{io, str};
+use stored::Form;
 use stored::conversions::{convert, convert_back};
 use streams::{answer, file_name, is_given, open_read, read_to_end};
 use texts::writing::Writer;
@@ -55,21 +57,26 @@ fn say_refused<R: Eprint>(rt: &R, refusal: Refusal) {
     }
 }
 
-// What a conversion makes of the stored book that can be read goes to standard output, or its refusal to standard error.
-fn convert_input<R: Print + Eprint + Input, C: FnOnce(&[u8], &mut [u8]) -> Result<u16, Refusal>>(
-    rt: &R,
-    conversion: C,
-) -> io::Result<()>
-    requires callable { C.IsAlwaysCallable conversion }
-    requires fits { (bytes before result after : _) → C.post conversion bytes before result after
-        → IfOk result (λ size. size ≤ length after.now) }
+// Puts the stored book into a buffer, in the form that it is converted to: its length, or a refusal.
+fn put_converted(bytes: &[u8], form: Form, out: &mut [u8]) -> Result<u16, Refusal>
+    ensures answer { result ≡ conversion_answer form bytes.now out.old }
+    ensures buffer { out.new ≡ after_conversion form bytes.now out.old }
+    ensures within { IfOk result (λ size. size ≤ length out.new) }
 {
+    match form {
+        Form::Old => convert_back(bytes, out),
+        Form::New => convert(bytes, out),
+    }
+}
+
+// The stored book that can be read goes to standard output in that form, or its refusal to standard error.
+fn convert_input<R: Print + Eprint + Input>(rt: &R, form: Form) -> io::Result<()> {
     // One byte more than a stored book may have: a longer input shows by it.
     let mut bytes = [0u8; 7169];
     let mut input = rt.reader();
     let length = read_to_end(&mut input, &mut bytes)?;
     let mut out = [0u8; 7168];
-    match conversion(&bytes[..length], &mut out) {
+    match put_converted(&bytes[..length], form, &mut out) {
         Ok(size) => answer(rt, &out[..usize::from(size)]),
         Err(refusal) => say_refused(rt, refusal),
     }
@@ -80,8 +87,8 @@ fn convert_input<R: Print + Eprint + Input, C: FnOnce(&[u8], &mut [u8]) -> Resul
 fn convert_as_told<R: Print + Eprint + Input + Env>(rt: &R) -> io::Result<()> {
     let mut word = [0u8; 16];
     match rt.arg(2, &mut word).map(|length| &word[..length]) {
-        Err(FillError::NotPresent) => convert_input(rt, convert),
-        Ok(b"back") => convert_input(rt, convert_back),
+        Err(FillError::NotPresent) => convert_input(rt, Form::New),
+        Ok(b"back") => convert_input(rt, Form::Old),
         _ => {
             usage(rt);
             Ok(())

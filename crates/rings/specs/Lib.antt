@@ -1,0 +1,2 @@
+-- The two conversions of a stored book.
+pub mod Conversions
