@@ -2,7 +2,7 @@
 // output.
 #![tactic(auto)]
 
-ghost use Rattle.std.specs.Prelude.{◌≡◌, ◌≤◌, length, IfOk};
+ghost use Rattle.std.specs.Prelude.{◌≡◌};
 ghost use Rattle.rings.specs.Conversions.{conversion_answer, after_conversion};
 
 use book_replies::replies::put_refused;
@@ -61,7 +61,6 @@ fn say_refused<R: Eprint>(rt: &R, refusal: Refusal) {
 fn put_converted(bytes: &[u8], form: Form, out: &mut [u8]) -> Result<u16, Refusal>
     ensures answer { result ≡ conversion_answer form bytes.now out.old }
     ensures buffer { out.new ≡ after_conversion form bytes.now out.old }
-    ensures within { IfOk result (λ size. size ≤ length out.new) }
 {
     match form {
         Form::Old => convert_back(bytes, out),
@@ -70,6 +69,7 @@ fn put_converted(bytes: &[u8], form: Form, out: &mut [u8]) -> Result<u16, Refusa
 }
 
 // The stored book that can be read goes to standard output in that form, or its refusal to standard error.
+#[tactic(auto, using(crate::proofs::ConversionLaws::conversion_fits))]
 fn convert_input<R: Print + Eprint + Input>(rt: &R, form: Form) -> io::Result<()> {
     // One byte more than a stored book may have: a longer input shows by it.
     let mut bytes = [0u8; 7169];
