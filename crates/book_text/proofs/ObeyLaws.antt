@@ -19,7 +19,7 @@ use Rattle.stored.proofs.StoreLaws.{form_length, store_answer_lem, store_copied}
 use Rattle.book_lines.specs.declared.lines.Command.{Command}
 use Rattle.book_lines.specs.declared.lines.Command.TheVariants as command
 use Rattle.book_lines.specs.declared.lines.Aside.{Aside}
-use Rattle.book_lines.specs.Lines.{heard}
+use Rattle.book_lines.specs.Lines.{heard, command_of}
 use Rattle.book_replies.specs.declared.replies.Reply.TheVariants as reply
 use Rattle.book_replies.specs.Replies.{reply_text}
 use Rattle.book_text.specs.declared.answers.Answered.{Answered}
@@ -42,10 +42,15 @@ module _ (b : Book) (form : List ℕ) (few : length_of New b ≤ 7168) (room : 7
       }
 
 -- what the file holds, and what the command does
-pub answer_is : (file : File) (c : Command) {contents : Contents} {r : Answered} → contents ≡ contents_of file
+pub command_answered : (file : File) (c : Command) {contents : Contents} {r : Answered} → contents ≡ contents_of file
     → (ValidContents contents → r ≡ answered contents c) → r ≡ answered (contents_of file) c
-answer_is file c {contents} {r} e a =
+command_answered file c {contents} {r} e a =
     let v : ValidContents contents = rw e (valid_found file) in a v ∙ ap (λ (x : Contents). answered x c) e
+
+-- what the file holds, and what the line does
+pub answer_is : (file : File) (line : List ℕ) {contents : Contents} {c : Command} {r : Answered} → contents ≡ contents_of file
+    → c ≡ command_of line → (ValidContents contents → r ≡ answered contents c) → r ≡ obeyed file line
+answer_is file line {contents} {c} {r} e q a = command_answered file c e a ∙ ap (answered (contents_of file)) q
 
 -- an aside is answered alike, whatever the file holds
 pub aside_answered : (contents : Contents) (a : Aside) → answered contents (command.Aside a) ≡ only (reply.Aside a)
